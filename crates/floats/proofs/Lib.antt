@@ -1,0 +1,11 @@
+pub mod Within
+pub mod Exactly
+pub mod Values
+pub mod Signs
+pub mod Tests
+pub mod Fraction
+pub mod Nearest
+pub mod Patterns
+pub mod Units
+pub mod Casts
+pub mod Sums

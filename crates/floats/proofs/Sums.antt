@@ -1,0 +1,61 @@
+-- Sums of f32: their start and turn, what they depend on, and their bound. Assumes nothing.
+use mathlib.Core.Path.{_≡_, refl, sym, ap, subst}
+use mathlib.Core.Bool.{Bool, true, false}
+use Prim.Native.Nat.{ℕ, zero, suc, _+_, _*_, _^_, _≤_, _<_}
+use native.Mathlib.Numerals.{add-one}
+use native.Mathlib.Omega.{arith}
+use lib.Ieee.{Float, ofBits}
+use Rattle.lists.proofs.Fold.{over-none, over-marked, over-passed, over-agree}
+use Rattle.floats.specs.Bound.{Within}
+use Rattle.floats.specs.F32.{_⊕_, 0f}
+use Rattle.floats.specs.Sums.{sumOver, sumTo}
+use Rattle.floats.proofs.Within.{sum-step, within-more}
+
+-- ---- over marked places
+pub sum-none : (m : ℕ → Bool) (f : ℕ → Float) → sumOver m f 0 ≡ 0f
+unfolding sumOver
+sum-none m f = over-none m (λ s i. s ⊕ f i) 0f
+
+pub sum-marked : (m : ℕ → Bool) (f : ℕ → Float) (i : ℕ) → m i ≡ true → sumOver m f (i + 1) ≡ sumOver m f i ⊕ f i
+unfolding sumOver
+sum-marked m f i e = over-marked m (λ s i. s ⊕ f i) 0f i e
+
+pub sum-passed : (m : ℕ → Bool) (f : ℕ → Float) (i : ℕ) → m i ≡ false → sumOver m f (i + 1) ≡ sumOver m f i
+unfolding sumOver
+sum-passed m f i e = over-passed m (λ s i. s ⊕ f i) 0f i e
+
+pub sum-agree : (m m' : ℕ → Bool) (f g : ℕ → Float) (n : ℕ) → ((i : ℕ) → i < n → m i ≡ m' i) → ((i : ℕ) → i < n → m i ≡ true → f i ≡ g i) → sumOver m f n ≡ sumOver m' g n
+unfolding sumOver
+sum-agree m m' f g n e h = over-agree m m' (λ s i. s ⊕ f i) (λ s i. s ⊕ g i) 0f n e (λ t i l k. ap (λ (x : Float). t ⊕ x) (h i l k))
+
+-- ---- over all places
+pub to-none : (f : ℕ → Float) → sumTo f 0 ≡ 0f
+unfolding sumTo
+to-none f = sum-none (λ i. true) f
+
+pub to-more : (f : ℕ → Float) (i : ℕ) → sumTo f (i + 1) ≡ sumTo f i ⊕ f i
+unfolding sumTo
+to-more f i = sum-marked (λ i. true) f i refl
+
+pub to-agree : (f g : ℕ → Float) (n : ℕ) → ((i : ℕ) → i < n → f i ≡ g i) → sumTo f n ≡ sumTo g n
+unfolding sumTo
+to-agree f g n e = sum-agree (λ i. true) (λ i. true) f g n (λ i l. refl) (λ i l k. e i l)
+
+-- ---- THE BOUND: up to 2 ^ 24 terms of size at most 2 ^ k sum to at most their number times 2 ^ k
+zero-within : (k : ℕ) → Within 0f (0 * 2 ^ k) 1
+unfolding ofBits
+zero-within k = omega arith
+
+-- one more place, marked or not
+turn-within : (k : ℕ) → k ≤ 103 → (m : ℕ → Bool) (f : ℕ → Float) (n : ℕ) → suc n ≤ 2 ^ 24 → Within (sumOver m f n) (n * 2 ^ k) 1 → (m n ≡ true → Within (f n) (2 ^ k) 1) → Within (sumOver m f (n + 1)) (suc n * 2 ^ k) 1
+turn-within k K m f n N w h = by (m n) refl
+  where
+    by : (b : Bool) → m n ≡ b → Within (sumOver m f (n + 1)) (suc n * 2 ^ k) 1
+    by true e = subst (λ (x : Float). Within x (suc n * 2 ^ k) 1) (sym (sum-marked m f n e)) (sum-step k K (sumOver m f n) (f n) n N w (h e))
+    by false e = subst (λ (x : Float). Within x (suc n * 2 ^ k) 1) (sym (sum-passed m f n e)) (within-more (sumOver m f n) (n * 2 ^ k) 1 (suc n * 2 ^ k) 1 (omega arith) w (omega arith))
+
+pub sum-within : (k : ℕ) → k ≤ 103 → (m : ℕ → Bool) (f : ℕ → Float) (n : ℕ) → n ≤ 2 ^ 24 → ((i : ℕ) → i < n → m i ≡ true → Within (f i) (2 ^ k) 1) → Within (sumOver m f n) (n * 2 ^ k) 1
+sum-within k K m f zero N h = subst (λ (x : Float). Within x (0 * 2 ^ k) 1) (sym (sum-none m f)) (zero-within k)
+sum-within k K m f (suc n) N h =
+    subst (λ (j : ℕ). Within (sumOver m f j) (suc n * 2 ^ k) 1) (add-one n)
+    (turn-within k K m f n N (sum-within k K m f n (omega arith) (λ i l. h i (omega arith))) (h n (omega arith)))

@@ -1,0 +1,50 @@
+-- What is known of a value by its fraction or by a bound on it: that it is finite, its sign, other bounds. Assumes nothing.
+use mathlib.Core.Path.{_≡_, sym, ap, _∙_}
+use mathlib.Core.Bool.{Bool, true, false, not}
+use Prim.Native.Nat.{ℕ, zero-le, _*_, _≤_}
+use native.Mathlib.Nat.{le-trans, le-of-eq, zero-mul, mul-right-comm, mul-le-mul-right, le-of-mul-le-mul-right}
+use lib.Dec.{T}
+use lib.IntN.{ℤ}
+use lib.Ieee.{Float, nan, inf, fin, up, down, isNan}
+use lib.Ieee.Fits.{down-pos}
+use lib.Ieee.Exact.{HasValue}
+use lib.Ieee.Scale.{finite}
+use Rattle.floats.specs.Bound.{Within, UpTo}
+use Rattle.floats.specs.Units.{signOf}
+
+pub value-finite : (x : Float) (s : Bool) (a c : ℕ) → HasValue x s a c → T (finite x)
+value-finite nan s a c h = absurd h
+value-finite (inf t) s a c h = absurd h
+value-finite (fin t m e) s a c h = tt
+
+pub value-sign : (x : Float) (s : Bool) (a c : ℕ) → HasValue x s a c → signOf x ≡ s
+value-sign nan s a c h = absurd h
+value-sign (inf t) s a c h = absurd h
+value-sign (fin t m e) s a c h = h .0
+
+pub finite-number : (x : Float) → T (finite x) → T (not (isNan x))
+unfolding isNan
+finite-number nan t = absurd t
+finite-number (inf s) t = absurd t
+finite-number (fin s m e) t = tt
+
+pub upto-within : (x : Float) (a c : ℕ) → UpTo x a c → Within x a c
+upto-within nan a c h = absurd h
+upto-within (inf s) a c h = absurd h
+upto-within (fin false m e) a c h = h
+upto-within (fin true m e) a c h = le-trans (le-of-eq (ap (λ (n : ℕ). n * up e * c) h ∙ ap (λ (n : ℕ). n * c) (zero-mul (up e)) ∙ zero-mul c)) zero-le
+
+-- with the sign set it is -0
+pub upto-zero : (s : Bool) (m : ℕ) (e : ℤ) (a c : ℕ) → UpTo (fin s m e) a c → T s → m ≡ 0
+upto-zero true m e a c h t = h
+upto-zero false m e a c h t = absurd t
+
+-- a value u / d within a / c
+pub value-bound : (x : Float) (s : Bool) (u d a c : ℕ) → HasValue x s u d → Within x a c → u * c ≤ a * d
+value-bound nan s u d a c h w = absurd h
+value-bound (inf t) s u d a c h w = absurd h
+value-bound (fin t m e) s u d a c h w =
+    le-of-mul-le-mul-right
+    (le-trans (le-of-eq (mul-right-comm u c (down e) ∙ ap (λ (z : ℕ). z * c) (sym (h .1)) ∙ mul-right-comm (m * up e) d c))
+    (le-trans (mul-le-mul-right d w) (le-of-eq (mul-right-comm a (down e) d))))
+    (down-pos e)

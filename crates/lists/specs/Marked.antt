@@ -1,0 +1,14 @@
+-- Folds over the marked places of an image, in order. Definitions only.
+use Prim.Native.Nat.{ℕ, zero, suc}
+use mathlib.Core.Bool.{Bool, true, false}
+
+-- x where the test passes, y where it fails. It is shut, so that a proof can go by the two cases without opening the test
+unfoldable pub pick : {A : Type 0} → Bool → A → A → A
+pick true x y = x
+pick false x y = y
+
+-- s, taken by `step` through the places below n that m marks, in order; the others are passed by
+unfoldable pub overMarked : {S : Type 0} → (ℕ → Bool) → (S → ℕ → S) → S → ℕ → S
+unfolding pick
+overMarked m step s zero = s
+overMarked m step s (suc i) = pick (m i) (step (overMarked m step s i) i) (overMarked m step s i)
