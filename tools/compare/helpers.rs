@@ -4,7 +4,11 @@
 //!
 //! With STRIDE 1, which is the default, every bit pattern is tried; with another, each STRIDE-th from FIRST on. The square root,
 //! floor, round, abs, is_finite and the cast are held to the standard library's (the hardware's square root), cos, sin and exp_neg to
-//! the rules below, written from document 01 in signed whole numbers. Two NaNs count as equal.
+//! document 01's rules as tools/oracle/rules.rs has them. Two NaNs count as equal.
+
+#[allow(dead_code)]
+#[path = "../oracle/rules.rs"]
+mod rules;
 
 use std::io::Write;
 use std::sync::atomic::{AtomicU64, Ordering};
@@ -22,68 +26,6 @@ extern "C" {
     fn helper_is_finite(x: f32) -> bool;
     fn helper_as_usize(x: f32) -> usize;
     fn helper_to_f32(n: usize) -> f32;
-}
-
-const ONE: i64 = 1 << 30;
-
-/// floor(x * 2^k) for a finite x that is not below zero, where the answer is below 2^62
-fn floor_scaled(x: f32, k: i32) -> i64 {
-    let b = x.to_bits();
-    let (field, digits) = ((b >> 23) as i32, (b & 0x7f_ffff) as i64);
-    let (m, e) = if field == 0 { (digits, -149) } else { (digits | 0x80_0000, field - 150) };
-    let s = e + k;
-    if s >= 0 {
-        m << s
-    } else if s > -64 {
-        m >> -s
-    } else {
-        0
-    }
-}
-
-/// Z = floor(theta^2 * 2^30), by the digits of theta squared
-fn z_of(theta: f32) -> i64 {
-    let b = theta.abs().to_bits();
-    let (field, digits) = ((b >> 23) as i32, (b & 0x7f_ffff) as i128);
-    let (m, e) = if field == 0 { (digits, -149) } else { (digits | 0x80_0000, field - 150) };
-    let s = 2 * e + 30;
-    if s >= 0 {
-        ((m * m) << s) as i64
-    } else if s > -120 {
-        ((m * m) >> -s) as i64
-    } else {
-        0
-    }
-}
-
-/// the recurrence for k from top down to 1; document 01's floor is of an exact quotient that is not below zero
-fn recur(z: i64, top: i64, divisor: fn(i64) -> i64) -> i64 {
-    let mut u = ONE;
-    for k in (1..=top).rev() {
-        u = ONE - (z * u).div_euclid(ONE * divisor(k));
-    }
-    u
-}
-
-/// v / 2^30 to f32: the quotient is exact in f64, so it is rounded once
-fn over30(v: i64) -> f32 {
-    (v as f64 / ONE as f64) as f32
-}
-
-fn cos(theta: f32) -> f32 {
-    over30(recur(z_of(theta), 8, |k| (2 * k - 1) * 2 * k))
-}
-
-fn sin(theta: f32) -> f32 {
-    over30(recur(z_of(theta), 8, |k| 2 * k * (2 * k + 1))) * theta
-}
-
-fn exp_neg(a: f32) -> f32 {
-    let mut e = recur(floor_scaled(a.abs(), 27), 12, |k| k);
-    for _ in 0..3 {
-        e = e * e / ONE;
-    }
-    over30(e)
 }
 
 fn equal(x: f32, y: f32) -> bool {
@@ -106,9 +48,9 @@ fn tests() -> Vec<Test> {
     }
     vec![
         Test { name: "sqrt", last: ALL, signs: true, agrees: |b| equal(unsafe { helper_sqrt(x(b)) }, x(b).sqrt()) },
-        Test { name: "cos", last: 0x4000_0000, signs: true, agrees: |b| equal(unsafe { helper_cos(x(b)) }, cos(x(b))) },
-        Test { name: "sin", last: 0x4000_0000, signs: true, agrees: |b| equal(unsafe { helper_sin(x(b)) }, sin(x(b))) },
-        Test { name: "exp_neg", last: 0x40c0_0000, signs: false, agrees: |b| equal(unsafe { helper_exp_neg(x(b)) }, exp_neg(x(b))) },
+        Test { name: "cos", last: 0x4000_0000, signs: true, agrees: |b| equal(unsafe { helper_cos(x(b)) }, rules::cos(x(b))) },
+        Test { name: "sin", last: 0x4000_0000, signs: true, agrees: |b| equal(unsafe { helper_sin(x(b)) }, rules::sin(x(b))) },
+        Test { name: "exp_neg", last: 0x40c0_0000, signs: false, agrees: |b| equal(unsafe { helper_exp_neg(x(b)) }, rules::exp_neg(x(b))) },
         Test { name: "floor", last: ALL, signs: true, agrees: |b| equal(unsafe { helper_floor(x(b)) }, x(b).floor()) },
         Test { name: "round", last: ALL, signs: true, agrees: |b| equal(unsafe { helper_round(x(b)) }, x(b).round()) },
         Test { name: "abs", last: ALL, signs: true, agrees: |b| equal(unsafe { helper_abs(x(b)) }, x(b).abs()) },

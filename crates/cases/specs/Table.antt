@@ -1,15 +1,38 @@
 -- The starred cases of document 01 by their numbers: each line is one claim about the definitions that the contracts cite. Floats stand by their bit patterns.
 use mathlib.Core.Path.{_≡_}
 use Prim.Native.Nat.{ℕ}
+use mathlib.Core.List.{List, [], _∷_, _++_, map}
 use lib.Ieee.{Float, binary32, ofBits, toBits}
+use Rattle.floats.specs.F32.{f32}
 use Rattle.root.specs.Root.{sqrtOf}
 use Rattle.series.specs.Series.{cosOf, sinOf, expNegOf}
+use Rattle.settings.specs.Sides.{resizedOf}
+use Rattle.resize.specs.Resize.{resizeOf}
+use Rattle.gradients.specs.Gradients.{gradientX}
+
+-- an image by the bit patterns of its numbers
+abbrev pub patterns : List Float → List ℕ
+patterns xs = map (toBits binary32) xs
 
 -- the bit pattern of a function's value at a bit pattern
 abbrev pub at : (Float → Float) → ℕ → ℕ
 at f b = toBits binary32 (f (ofBits binary32 b))
 
+-- eight rows alike
+abbrev pub eight : List ℕ → List ℕ
+eight r = r ++ (r ++ (r ++ (r ++ (r ++ (r ++ (r ++ r))))))
+
 pub record Starred : Type 0 where
+  -- 4: 700x350 at edge 350 becomes 350x175; 400x4 becomes 350x8; 400x12 becomes 350x11
+  pub sides-halved : resizedOf 350 700 350 ≡ record { w = 350; h = 175 }
+  pub side-at-least-8 : resizedOf 350 400 4 ≡ record { w = 350; h = 8 }
+  pub side-rounded : resizedOf 350 400 12 ≡ record { w = 350; h = 11 }
+  -- 5: a 4x4 frame, each row 0 8 16 24, to 8x8: each row -2 2 6 10 14 18 22 24
+  pub resized-past-the-edges :
+      patterns (resizeOf (0 ∷ 8 ∷ 16 ∷ 24 ∷ 0 ∷ 8 ∷ 16 ∷ 24 ∷ 0 ∷ 8 ∷ 16 ∷ 24 ∷ 0 ∷ 8 ∷ 16 ∷ 24 ∷ []) 4 4 8 8)
+      ≡ eight (0xc000_0000 ∷ 0x4000_0000 ∷ 0x40c0_0000 ∷ 0x4120_0000 ∷ 0x4160_0000 ∷ 0x4190_0000 ∷ 0x41b0_0000 ∷ 0x41c0_0000 ∷ [])
+  -- 6: gradient_x of a row 0 10 40: 5 20 15
+  pub gradient-of-a-row : patterns (gradientX 3 1 (f32 0 ∷ f32 10 ∷ f32 40 ∷ [])) ≡ 0x40a0_0000 ∷ 0x41a0_0000 ∷ 0x4170_0000 ∷ []
   -- 7: the root of 2; the cosine of 0 is 1; the sine of -0 is -0; e^-0 is 1
   pub root-of-two : at sqrtOf 0x4000_0000 ≡ 0x3fb5_04f3
   pub cosine-of-zero : at cosOf 0 ≡ 0x3f80_0000

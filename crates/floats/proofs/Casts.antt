@@ -1,8 +1,8 @@
 -- The cast of a value to a u64: what it asks, and what it gives. Assumes nothing.
 use mathlib.Core.Path.{_≡_, sym, ap, _∙_, subst}
 use mathlib.Core.Bool.{Bool, true, false}
-use Prim.Native.Nat.{ℕ, _+_, _-_, _*_, _/_, _^_, _<_, min}
-use native.Mathlib.Nat.{le-of-eq, lt-of-lt-of-le, lt-of-le-of-lt, zero-mul, zero-div, mul-right-comm, mul-pos, mul-lt-mul-of-pos-right, lt-of-mul-lt-mul-right, div-lt-iff-lt-mul}
+use Prim.Native.Nat.{ℕ, _+_, _-_, _*_, _/_, _^_, _<_, min, _≤_}
+use native.Mathlib.Nat.{le-of-eq, lt-of-lt-of-le, lt-of-le-of-lt, zero-mul, zero-div, mul-right-comm, mul-pos, mul-lt-mul-of-pos-right, lt-of-mul-lt-mul-right, div-lt-iff-lt-mul, le-trans, mul-comm, div-le-of-le-mul, min-le-left}
 use native.Mathlib.Omega.{arith}
 use lib.Dec.{T, lt→ltb}
 use lib.IntN.{pos}
@@ -10,6 +10,7 @@ use lib.Ieee.{Float, nan, inf, fin, up, down, lt, toUnsigned}
 use lib.Ieee.Fits.{down-pos}
 use lib.Ieee.Exact.{HasValue}
 use lib.Ieee.Nearest.{div-same}
+use Rattle.floats.specs.Bound.{Within}
 
 pub record Cut (v : Float) (n : ℕ) : Type 0 where
   pub low : T (lt (fin true 1 (pos 0)) v)
@@ -43,3 +44,11 @@ cut (fin false m e) s x d D z h k =
   where
     least : (y : ℕ) → y < 2 ^ 64 → min y (2 ^ 64 - 1) ≡ y
     least y h = omega arith
+
+-- a cast of a value within a whole bound
+pub cast-within : (w : ℕ) (x : Float) (n : ℕ) → Within x n 1 → toUnsigned w x ≤ n
+unfolding toUnsigned
+cast-within w nan n h = absurd h
+cast-within w (inf s) n h = absurd h
+cast-within w (fin true m e) n h = omega arith
+cast-within w (fin false m e) n h = le-trans (min-le-left (m * up e / down e) (2 ^ w - 1)) (div-le-of-le-mul (down e) (omega (arith, mul-comm (down e) n)))

@@ -1,21 +1,22 @@
 -- A value is written in one way, a value of the format rounds to itself, a product with a power of two is exact, and so are sums of small whole numbers. Assumes nothing.
 use mathlib.Core.Path.{_≡_, refl, sym, ap, ap₂, _∙_, subst}
 use Prim.Native.Nat.{ℕ, zero, suc, _+_, _-_, _*_, _/_, _^_, _≤_, _<_}
-use native.Mathlib.Nat.{lt-irrefl, le-trans, le-of-eq, lt-of-lt-of-le, lt-of-le-of-lt, zero-mul, mul-one, one-mul, mul-comm, mul-assoc, mul-right-comm, mul-pos, mul-lt-mul-of-pos-right, lt-of-mul-lt-mul-right, mul-mul-mul-comm, add-mul, le-add-right, le-add-left}
+use native.Mathlib.Nat.{lt-irrefl, le-trans, le-of-eq, lt-of-lt-of-le, lt-of-le-of-lt, zero-mul, mul-one, one-mul, mul-comm, mul-assoc, mul-right-comm, mul-pos, mul-lt-mul-of-pos-right, lt-of-mul-lt-mul-right, mul-mul-mul-comm, add-mul, le-add-right, le-add-left, le-of-lt}
 use native.Mathlib.Omega.{arith}
 use mathlib.Core.Bool.{Bool, true, false, cond, true≢false}
-use lib.Dec.{T, ltb, ltb→lt, leb→le, lit<, lit≤, nltb→le, not-T}
+use lib.Dec.{T, ltb, ltb→lt, leb→le, lit<, lit≤, nltb→le, not-T, eqb·suc-zero}
 use lib.IntN.{ℤ, pos, negsuc}
-use lib.Pow.{pow-lt, pow-pos, pow-add}
-use lib.Ieee.{Float, nan, inf, fin, Format, binary32, prec, emax, low, up, down, unlike, size, round, sum, add, mul, fits, ofInt, ofBits, toBits, hid, top}
-use lib.Ieee.Fits.{down-pos, and-l, and-r, round-fits, ofInt-fits, add-fits, mul-fits}
+use lib.Pow.{pow-lt, pow-pos, pow-add, pow-mono}
+use lib.Ieee.{Float, nan, inf, fin, Format, binary32, prec, emax, low, up, down, unlike, size, round, sum, add, mul, fits, ofInt, ofBits, toBits, hid, top, div}
+use lib.Ieee.Fits.{down-pos, and-l, and-r, round-fits, ofInt-fits, add-fits, mul-fits, up-pos}
 use lib.Ieee.Bits.{ofBits-toBits}
 use lib.Ieee.Exact.{HasValue, round-exact}
 use lib.Ieee.Back.{round-whole}
 use lib.Ieee.Nearest.{div-same}
 use lib.Ieee.Scale.{round-same}
-use Rattle.floats.proofs.Within.{rep-down}
+use Rattle.floats.proofs.Within.{rep-down, within-more}
 use Rattle.floats.specs.Bound.{Within, Rep}
+use Rattle.floats.specs.F32.{1f, half}
 
 -- ---- a value is written in one way
 
@@ -226,3 +227,33 @@ mul-whole a b A B h =
     (ofInt-fits binary32 (pos (a * b)))
     (mul-exact binary32 (ofInt binary32 (pos a)) (ofInt binary32 (pos b)) a 1 b 1 (lit< tt) (lit< tt) (rep-down (a * b) 0 h (lit≤ tt)) (whole-is a A) (whole-is b B))
     (whole-is (a * b) h)
+
+-- a quotient is the rounded quotient of the values
+pub div-value : (f : Format) (x y : Float) (s t : Bool) (a c b d : ℕ) → 0 < c → 0 < b → HasValue x s a c → HasValue y t b d → div f x y ≡ round f (unlike s t) (a * d) (c * b)
+unfolding div
+div-value f nan y s t a c b d C B h k = absurd h
+div-value f (inf i) y s t a c b d C B h k = absurd h
+div-value f (fin i m e) nan s t a c b d C B h k = absurd k
+div-value f (fin i m e) (inf j) s t a c b d C B h k = absurd k
+div-value f (fin i m e) (fin j zero g) s t a c b d C B h k = absurd (lt-irrefl 0 (lt-of-lt-of-le (mul-pos B (down-pos g)) (le-of-eq (sym (k .1) ∙ ap (λ (z : ℕ). z * d) (zero-mul (up g)) ∙ zero-mul d))))
+div-value f (fin i m e) (fin j (suc n) g) s t a c b d C B h k =
+    let x = m * up e in
+    let y = suc n * up g in
+    rw (eqb·suc-zero n)
+    (ap₂ (λ (u v : Bool). round f (unlike u v) (x * down g) (y * down e)) (h .0) (k .0)
+    ∙ round-same f (unlike s t) (x * down g) (y * down e) (a * d) (c * b) (mul-pos (mul-pos (omega arith) (up-pos g)) (down-pos e)) (mul-pos C B)
+    (mul-mul-mul-comm x (down g) c b ∙ ap₂ _*_ (h .1) (mul-comm (down g) b ∙ sym (k .1) ∙ mul-comm y d) ∙ mul-mul-mul-comm a (down e) d y ∙ ap (λ (z : ℕ). a * d * z) (mul-comm (down e) y)))
+
+-- ---- 0.5, 1 and small whole numbers
+pub half-value : HasValue half false 1 2
+unfolding ofBits
+half-value = (refl, refl)
+
+pub one-value : HasValue 1f false 1 1
+unfolding ofBits
+one-value = (refl, refl)
+
+-- a whole number below 2 ^ k
+pub whole-within : (n k : ℕ) → k ≤ 24 → n < 2 ^ k → Within (ofInt binary32 (pos n)) (2 ^ k) 1
+whole-within n k K h =
+    within-more (ofInt binary32 (pos n)) n 1 (2 ^ k) 1 (lit< tt) (value-within (ofInt binary32 (pos n)) false n 1 (whole-is n (le-trans (le-of-lt h) (pow-mono K)))) (omega arith)

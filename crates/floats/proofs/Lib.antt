@@ -7,5 +7,6 @@ pub mod Fraction
 pub mod Nearest
 pub mod Patterns
 pub mod Units
+pub mod Upward
 pub mod Casts
 pub mod Sums

@@ -7,7 +7,7 @@ use mathlib.Core.Bool.{Bool, true, false, _&&_, _||_, cond, true≢false}
 use lib.Dec.{T, ltb, eqb, ltb→lt, eqb→eq, lit<}
 use lib.Arith.{le→nltb}
 use lib.IntN.{ℤ, pos}
-use lib.Ieee.{Float, nan, inf, fin, Format, up, down, round, neg, sum, add, sub, le}
+use lib.Ieee.{Float, nan, inf, fin, Format, up, down, round, neg, sum, add, sub, le, mul, unlike}
 use lib.Ieee.Fits.{up-pos, down-pos, and-l}
 use lib.Ieee.Bits.{is-false}
 use lib.Ieee.Exact.{HasValue}
@@ -150,3 +150,12 @@ up-to-of-le (fin true m e) y a c C v h k = no-size m e (unfold le in h)
       where
         some : (k : ℕ) → 0 < suc k
         some k = omega arith
+
+-- the sign of a product of finite values
+pub mul-signed : (f : Format) (x y : Float) (s t : Bool) (a c b d : ℕ) → HasValue x s a c → Signed t y → Within y b d → Signed (unlike s t) (mul f x y)
+unfolding mul
+mul-signed f nan y s t a c b d h k w = absurd h
+mul-signed f (inf i) y s t a c b d h k w = absurd h
+mul-signed f (fin i m e) nan s t a c b d h k w = absurd w
+mul-signed f (fin i m e) (inf j) s t a c b d h k w = absurd w
+mul-signed f (fin i m e) (fin j n g) s t a c b d h k w = rw (← h .0, ← k) (round-signed f (unlike i j) (m * up e * (n * up g)) (down e * down g))

@@ -59,3 +59,8 @@ sum-within k K m f zero N h = subst (λ (x : Float). Within x (0 * 2 ^ k) 1) (sy
 sum-within k K m f (suc n) N h =
     subst (λ (j : ℕ). Within (sumOver m f j) (suc n * 2 ^ k) 1) (add-one n)
     (turn-within k K m f n N (sum-within k K m f n (omega arith) (λ i l. h i (omega arith))) (h n (omega arith)))
+
+-- `sum-within` over all places
+pub to-within : (k : ℕ) → k ≤ 103 → (f : ℕ → Float) (n : ℕ) → n ≤ 2 ^ 24 → ((i : ℕ) → i < n → Within (f i) (2 ^ k) 1) → Within (sumTo f n) (n * 2 ^ k) 1
+unfolding sumTo
+to-within k K f n N h = sum-within k K (λ _. true) f n N (λ i l _. h i l)

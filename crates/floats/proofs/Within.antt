@@ -2,10 +2,10 @@
 use mathlib.Core.Path.{_≡_, refl, sym, ap, _∙_, subst}
 use mathlib.Core.Logic.{_⊎_, inl, inr}
 use Prim.Native.Nat.{ℕ, zero, suc, _+_, _-_, _*_, _^_, _≤_, _<_}
-use native.Mathlib.Nat.{lt-irrefl, le-trans, le-of-eq, le-of-lt, lt-of-lt-of-le, eq-or-lt-of-le, zero-mul, mul-one, mul-comm, mul-assoc, mul-right-comm, mul-pos, mul-le-mul, mul-le-mul-right, le-of-mul-le-mul-right, add-mul, add-le-add, mul-mul-mul-comm, suc-mul, pow-succ'}
+use native.Mathlib.Nat.{one-mul, lt-irrefl, le-trans, le-of-eq, le-of-lt, lt-of-lt-of-le, eq-or-lt-of-le, zero-mul, mul-one, mul-comm, mul-assoc, mul-right-comm, mul-pos, mul-le-mul, mul-le-mul-right, le-of-mul-le-mul-right, add-mul, add-le-add, mul-mul-mul-comm, suc-mul, pow-succ'}
 use native.Mathlib.Omega.{arith}
 use mathlib.Core.Bool.{Bool, true, false, _&&_, _||_, Bool·beq, cond, true≢false}
-use lib.Dec.{T, ltb, eqb, ltb→lt, eqb→eq, lit<}
+use lib.Dec.{T, ltb, eqb, ltb→lt, eqb→eq, lit<, lit≤}
 use lib.Pow.{pow-pos, pow-add, pow-mono, shl-lt}
 use lib.Ieee.{Float, nan, inf, fin, Format, binary32, prec, emax, low, up, down, unlike, odd, units, round, neg, sum, add, sub, mul, div, le}
 use lib.Ieee.Fits.{down-pos, and-l, round-is}
@@ -315,3 +315,11 @@ module _ (f : Format) (u c N : ℕ) (rep : (n : ℕ) → n ≤ N → Rep f (n * 
 -- terms up to 2 ^ k, k up to 103: i of them are at most i * 2 ^ k, for i up to 2 ^ 24
 pub sum-step : (k : ℕ) → k ≤ 103 → (t x : Float) (i : ℕ) → suc i ≤ 2 ^ 24 → Within t (i * 2 ^ k) 1 → Within x (2 ^ k) 1 → Within (add binary32 t x) (suc i * 2 ^ k) 1
 sum-step k K = step-within binary32 (2 ^ k) 1 (2 ^ 24) (λ n h. rep-up n k h K)
+
+-- ---- powers of two as bounds
+pub rep-pow : (k : ℕ) → k ≤ 103 → Rep binary32 (2 ^ k) 1
+rep-pow k K = rw (one-mul (2 ^ k)) at (rep-up 1 k (lit≤ tt) K)
+
+-- a number times one of size at most 1
+pub scaled-within : (k : ℕ) → k ≤ 103 → (x y : Float) → Within x (2 ^ k) 1 → Within y 1 1 → Within (mul binary32 x y) (2 ^ k) 1
+scaled-within k K x y h g = mul-within binary32 x y (2 ^ k) 1 1 1 (2 ^ k) 1 (lit< tt) (lit< tt) (rep-pow k K) (omega arith) h g

@@ -2,6 +2,8 @@
 use mathlib.Core.Bool.{true, false}
 use mathlib.Core.Path.{_≡_}
 use Prim.Native.Nat.{ℕ, _+_, _*_, _^_, _≤_, _<_, suc}
+use mathlib.Core.List.{List}
+use lib.ListN.{getD}
 use lib.Ieee.{Float, nan, inf, fin, Format, prec, emax, low, up, down}
 
 -- x is finite, and its size is at most a / c
@@ -31,3 +33,7 @@ pub record Rep (f : Format) (a c : ℕ) : Type 0 where
   pub few : q < 2 ^ prec f
   pub small : q * 2 ^ j < 2 ^ (low f + suc (emax f))
   pub is : a * 2 ^ low f ≡ q * 2 ^ j * c
+
+-- each of the first n numbers is finite and at most 2 ^ k in size
+abbrev pub Bounded : List Float → ℕ → ℕ → Type 0
+Bounded xs n k = (i : ℕ) → i < n → Within (getD xs i nan) (2 ^ k) 1

@@ -6,8 +6,10 @@ use native.Mathlib.Nat.{add-zero, zero-add, mul-le-mul-right}
 use native.Mathlib.Omega.{arith}
 use lib.ListN.{length, take, drop, getD, set, length-set, replicate, length-replicate}
 use Rattle.lists.specs.Lists.{grow, tab, grid, put}
-use Rattle.lists.proofs.Grow.{grow-zero, grow-more, length-grow, tab-is, length-tab, tab-ext, tab-add, tab-const}
-use Rattle.lists.proofs.Put.{put-none, length-put, put-put, put-comm, take-put, getD-put-before, getD-put-after, set-is-put}
+use Rattle.lists.proofs.Grow.{grow-zero, grow-more, length-grow, tab-is, length-tab, tab-ext, tab-add, tab-const, getD-tab, tab-more}
+use Rattle.lists.proofs.Put.{put-none, length-put, put-put, put-comm, take-put, getD-put-before, getD-put-after, set-is-put, put-again, getD-put-in}
+use native.Mathlib.Numerals.{add-one}
+use lib.Seq.{take-suc-set}
 
 -- ---- one run at a, by pieces of s elements
 module _ {A : Type 0} (p : ℕ → List A) (s : ℕ) (each : (i : ℕ) → length (p i) ≡ s) (xs : List A) (a : ℕ) where
@@ -265,3 +267,19 @@ module _ {A : Type 0} (n i : ℕ) (xs : List A) (ts : List (ℕ × (ℕ → A)))
       ∙ ap (λ (z : List A). pieces z (singles ts) 1 i) (fills-are xs ts i)
       ∙ runs-more 1 n i few xs (singles ts) lo (spaced-apart ts n lo (length xs) apart)
       ∙ sym (fills-are xs ts (i + 1))
+
+-- ---- a run that is filled again, and read back
+module _ {A : Type 0} (xs : List A) (a n : ℕ) (f : ℕ → A) (fits : a + n ≤ length xs) where
+  pub fill-again : (g : ℕ → A) → put (put xs a (tab n f)) a (tab n g) ≡ put xs a (tab n g)
+  fill-again g =
+      let p : length (tab n f) ≡ n = length-tab n f in
+      let q : length (tab n g) ≡ n = length-tab n g in
+      put-again xs a (tab n f) (tab n g) (omega arith) (omega arith)
+
+  -- what was filled in, read back
+  pub getD-fill : (k : ℕ) (d : A) → k < n → getD (put xs a (tab n f)) (a + k) d ≡ f k
+  getD-fill k d h = getD-put-in xs a (tab n f) k d (rw length-tab fits) (rw length-tab h) ∙ getD-tab n k f d h
+
+-- one more place of the front of a list that is filled by a rule
+pub front-turn : {A : Type 0} (xs : List A) (f : ℕ → A) (i : ℕ) (v : A) → i < length xs → take i xs ≡ tab i f → v ≡ f i → take (i + 1) (set xs i v) ≡ tab (i + 1) f
+front-turn xs f i v h e q = rw (tab-more, ← e, ← q, add-one, take-suc-set)

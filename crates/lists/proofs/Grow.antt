@@ -2,7 +2,7 @@
 use Prim.Native.Nat.{ℕ, zero, suc, _+_, _-_, _*_, _/_, _%_, _<_}
 use mathlib.Core.Path.{_≡_, refl, sym, ap, _∙_}
 use mathlib.Core.List.{List, [], _∷_, _++_, append-assoc, append-nil}
-use native.Mathlib.Nat.{add-zero, add-suc, zero-mul, mul-one}
+use native.Mathlib.Nat.{add-zero, add-suc, zero-mul, mul-one, mul-comm, mod-lt, div-lt-iff-lt-mul}
 use native.Mathlib.Numerals.{add-one}
 use native.Mathlib.Omega.{arith}
 use lib.Arith.{digits-lt, digits-div, digits-mod}
@@ -98,3 +98,13 @@ grid-tab {A} w (suc h) g =
 
 pub getD-grid : {A : Type 0} (w h x y : ℕ) (g : ℕ → ℕ → A) (d : A) → x < w → y < h → getD (grid w h g) (y * w + x) d ≡ g x y
 getD-grid w h x y g d p q = rw (grid-tab, getD-tab (h * w) (y * w + x) (λ i. g (i % w) (i / w)) d (digits-lt q p), digits-mod y p, digits-div y p)
+
+-- what holds of every entry of a grid holds at each place of it
+some-wide : (w h i : ℕ) → i < w * h → 0 < w
+some-wide zero h i lt = absurd (omega arith)
+some-wide (suc w) h i lt = omega arith
+
+pub grid-all : {A : Type 0} (P : A → Type 0) (w h : ℕ) (g : ℕ → ℕ → A) (d : A) → ((x y : ℕ) → x < w → y < h → P (g x y)) → (i : ℕ) → i < w * h → P (getD (grid w h g) i d)
+grid-all P w h g d all i lt =
+    let few : i < h * w = rw (mul-comm h w) lt in
+    rw (grid-tab, getD-tab (h * w) i (λ i. g (i % w) (i / w)) d few) (all (i % w) (i / w) (mod-lt i (some-wide w h i lt)) (div-lt-iff-lt-mul (some-wide w h i lt) .1 few))

@@ -1,6 +1,6 @@
 -- A run put into a list: its length, what stands before and after it, a run right after a run, and two runs apart. Assumes nothing.
 use Prim.Native.Nat.{ℕ, zero, suc, _+_, _-_, _≤_, _<_}
-use mathlib.Core.Path.{_≡_, sym, ap, _∙_}
+use mathlib.Core.Path.{_≡_, sym, ap, _∙_, refl}
 use mathlib.Core.List.{List, [], _∷_, _++_, append-assoc}
 use native.Mathlib.Nat.{add-zero, sub-zero}
 use native.Mathlib.Omega.{arith}
@@ -122,3 +122,17 @@ set-under {A} xs i b v m h fits =
 -- two lists that agree up to k agree at each place below it
 pub getD-take-of : {A : Type 0} (k : ℕ) (xs ys : List A) (i : ℕ) (d : A) → i < k → take k xs ≡ take k ys → getD xs i d ≡ getD ys i d
 getD-take-of {A} k xs ys i d h e = sym (getD-take k xs i d h) ∙ ap (λ (z : List A). getD z i d) e ∙ getD-take k ys i d h
+
+put-is : {A : Type 0} (xs : List A) (a : ℕ) (l : List A) → put xs a l ≡ take a xs ++ (l ++ drop (a + length l) xs)
+unfolding put
+put-is xs a l = refl
+
+-- what is put over a run of the same length
+pub put-again : {A : Type 0} (xs : List A) (a : ℕ) (l m : List A) → length l ≡ length m → a + length l ≤ length xs → put (put xs a l) a m ≡ put xs a m
+put-again {A} xs a l m e h =
+    let t : take a (put xs a l) ≡ take a xs = take-put xs a l h a (omega arith) in
+    let d : drop (a + length m) (put xs a l) ≡ drop (a + length m) xs = drop-put xs a l h (a + length m) (omega arith) in
+    put-is (put xs a l) a m
+    ∙ ap (λ (z : List A). z ++ (m ++ drop (a + length m) (put xs a l))) t
+    ∙ ap (λ (z : List A). take a xs ++ (m ++ z)) d
+    ∙ sym (put-is xs a m)

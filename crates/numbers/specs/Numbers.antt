@@ -3,7 +3,8 @@
 -- sign of its argument, so that of a zero too.
 use mathlib.Core.Bool.{true, false}
 use Prim.Native.Nat.{ℕ, _+_, _-_, _*_, _/_}
-use lib.Ieee.{Float, nan, inf, fin, binary32, up, down, round}
+use lib.Ieee.{Float, nan, inf, fin, binary32, up, down, round, isNan, lt}
+use Rattle.lists.specs.Marked.{pick}
 
 -- the size: the sign cleared
 unfoldable pub absOf : Float → Float
@@ -30,3 +31,8 @@ unfolding nearestOf
 roundOf nan = nan
 roundOf (inf s) = inf s
 roundOf (fin s m e) = round binary32 s (nearestOf (fin s m e)) 1
+
+-- Rust's `max`: the larger, and where one is a NaN the other
+unfoldable pub maxOf : Float → Float → Float
+unfolding pick
+maxOf x y = pick (isNan x) y (pick (lt x y) y x)

@@ -2,24 +2,21 @@
 //
 // A line of the input is a vector: words in hexadecimal, the kind first. The vectors come from outside the code that
 // they test (tools/vectors says how each list is made).
-mod helpers;
-mod line;
-
 use libc::STDIN_FILENO;
 use libc::STDOUT_FILENO;
-use line::Line;
+use vectors::Line;
 
 // Counts the vector that the first n words hold, by its kind.
 fn judge(words: &[u64], n: usize, seen: &mut [u64], agreed: &mut [u64]) {
-    if n != 3 {
+    if n == 0 {
         return;
     }
-    if words.len() < 3 {
+    if n > words.len() {
         return;
     }
     let kind = words[0];
     count(seen, kind);
-    if helpers::agrees(kind, words[1], words[2]) {
+    if vectors::agrees(&words[..n]) {
         count(agreed, kind);
     }
 }
@@ -80,9 +77,19 @@ fn report_helpers(seen: &[u64], agreed: &[u64]) {
     report(b"as_usize", 10, seen, agreed);
 }
 
+fn report_images(seen: &[u64], agreed: &[u64]) {
+    report(b"resized sides", 16, seen, agreed);
+    report(b"resize_bilinear", 17, seen, agreed);
+    report(b"gaussian_kernel", 18, seen, agreed);
+    report(b"gaussian_blur_separable", 19, seen, agreed);
+    report(b"gradient_x", 20, seen, agreed);
+    report(b"gradient_y", 21, seen, agreed);
+    report(b"prepared images", 22, seen, agreed);
+}
+
 fn main() {
     let mut input = io::large_buffer();
-    let mut held = [0u64; 64];
+    let mut held = [0u64; 4096];
     let mut seen_all = [0u64; 64];
     let mut agreed_all = [0u64; 64];
     let buf: &mut [u8] = &mut input;
@@ -103,4 +110,5 @@ fn main() {
         reads -= 1;
     }
     report_helpers(seen, agreed);
+    report_images(seen, agreed);
 }

@@ -57,6 +57,9 @@ loop-again c = search needs
 report-helpers-requires : tie.Need-report-helpers-requires Inv-loop μ-loop
 report-helpers-requires c κs = search needs
 
+report-images-requires : tie.Need-report-images-requires Inv-loop μ-loop
+report-images-requires c κs = search needs
+
 returns : tie.Need-returns Inv-loop μ-loop
 returns c = search needs
 
@@ -82,4 +85,5 @@ main-spec =
     loop-less
     loop-again
     report-helpers-requires
+    report-images-requires
     returns)

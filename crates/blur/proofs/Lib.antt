@@ -1,0 +1,4 @@
+pub mod Kernels
+pub mod Taps
+pub mod Passes
+pub mod Bounds

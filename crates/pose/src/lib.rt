@@ -1,0 +1,135 @@
+// Poses and answers: what the passes carry, what a call hands back, and the matrix of each.
+ghost use mathlib.Core.Path.{_≡_};
+ghost use Rattle.floats.specs.Bound.{Within};
+ghost use Rattle.pose.specs.Pose.{mapOf, identity, isPose, turnedOf, posedMatrix, matrixOf};
+
+// The running pose.
+pub struct Pose {
+    pub theta: f32,
+    pub tx: f32,
+    pub ty: f32,
+}
+
+// The first two rows of a pose's matrix, by which the warp goes.
+pub struct Map {
+    pub m00: f32,
+    pub m01: f32,
+    pub m02: f32,
+    pub m10: f32,
+    pub m11: f32,
+    pub m12: f32,
+}
+
+// How a call ends: a pose with its correlation, or a refusal number of document 01's table.
+pub enum Answer {
+    Posed { theta: f32, tx: f32, ty: f32, rho: f32 },
+    Refused(u8),
+}
+
+// An answer with the number of warps done.
+pub struct Outcome {
+    pub passes: usize,
+    pub answer: Answer,
+}
+
+// The matrix of an answer.
+pub struct Matrix {
+    pub m00: f32,
+    pub m01: f32,
+    pub m02: f32,
+    pub m10: f32,
+    pub m11: f32,
+    pub m12: f32,
+    pub m20: f32,
+    pub m21: f32,
+    pub m22: f32,
+}
+
+// The first two rows of a pose's matrix.
+pub fn affine_from_theta_tx_ty(pose: Pose) -> Map
+    requires { ⌜ Within (pose .theta) 2 1 ⌝ }
+    ensures { λ r. ⌜ r ≡ mapOf pose ⌝ }
+{
+    let ct = series::cos(pose.theta);
+    let st = series::sin(pose.theta);
+    Map {
+        m00: ct,
+        m01: -st,
+        m02: pose.tx,
+        m10: st,
+        m11: ct,
+        m12: pose.ty,
+    }
+}
+
+fn identity3() -> Matrix
+    ensures { λ r. ⌜ r ≡ identity ⌝ }
+{
+    Matrix {
+        m00: 1.0,
+        m01: 0.0,
+        m02: 0.0,
+        m10: 0.0,
+        m11: 1.0,
+        m12: 0.0,
+        m20: 0.0,
+        m21: 0.0,
+        m22: 1.0,
+    }
+}
+
+// [ct, -st, tx], [st, ct, ty], [0, 0, 1]
+fn turned(theta: f32, tx: f32, ty: f32) -> Matrix
+    requires { ⌜ Within theta 2 1 ⌝ }
+    ensures { λ r. ⌜ r ≡ turnedOf theta tx ty ⌝ }
+{
+    let ct = series::cos(theta);
+    let st = series::sin(theta);
+    Matrix {
+        m00: ct,
+        m01: -st,
+        m02: tx,
+        m10: st,
+        m11: ct,
+        m12: ty,
+        m20: 0.0,
+        m21: 0.0,
+        m22: 1.0,
+    }
+}
+
+// Whether these are numbers of a pose: theta in -2..2, tx and ty finite.
+pub fn is_pose(theta: f32, tx: f32, ty: f32) -> bool
+    ensures { λ r. ⌜ r ≡ isPose theta tx ty ⌝ }
+{
+    if theta >= -2.0 {
+        if theta <= 2.0 {
+            if numbers::is_finite(tx) {
+                return numbers::is_finite(ty);
+            }
+            return false;
+        }
+        return false;
+    }
+    false
+}
+
+fn posed_matrix(theta: f32, tx: f32, ty: f32) -> Matrix
+    ensures { λ r. ⌜ r ≡ posedMatrix theta tx ty ⌝ }
+{
+    if is_pose(theta, tx, ty) {
+        turned(theta, tx, ty)
+    } else {
+        identity3()
+    }
+}
+
+// The matrix of any answer: the identity for a refusal, for a number that is not finite and for a theta outside -2..2.
+pub fn matrix_of(a: Answer) -> Matrix
+    ensures { λ r. ⌜ r ≡ matrixOf a ⌝ }
+{
+    match a {
+        Answer::Refused(_) => identity3(),
+        Answer::Posed { theta, tx, ty, rho: _ } => posed_matrix(theta, tx, ty),
+    }
+}
