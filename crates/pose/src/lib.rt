@@ -22,7 +22,12 @@ pub struct Map {
 
 // How a call ends: a pose with its correlation, or a refusal number of document 01's table.
 pub enum Answer {
-    Posed { theta: f32, tx: f32, ty: f32, rho: f32 },
+    Posed {
+        theta: f32,
+        tx: f32,
+        ty: f32,
+        rho: f32,
+    },
     Refused(u8),
 }
 
@@ -130,6 +135,11 @@ pub fn matrix_of(a: Answer) -> Matrix
 {
     match a {
         Answer::Refused(_) => identity3(),
-        Answer::Posed { theta, tx, ty, rho: _ } => posed_matrix(theta, tx, ty),
+        Answer::Posed {
+            theta,
+            tx,
+            ty,
+            rho: _,
+        } => posed_matrix(theta, tx, ty),
     }
 }

@@ -1,0 +1,33 @@
+-- `checks::size` meets its contract. Assumes nothing.
+use mathlib.Core.Path.{_≡_, ap, _∙_}
+use Prim.Native.Nat.{ℕ, _*_}
+use native.Mathlib.Nat.{mul-le-mul}
+use borrow.Author.Needs.{needs}
+use Rattle.lists.proofs.Every.{sides-fit}
+use Rattle.settings.specs.Sides.{resizedOf}
+use Rattle.settings.specs.declared.Sides.{Sides}
+use Rattle.checks.specs.Checks.{sizeOf}
+use Rattle.checks.proofs.size.Statement.{statement}
+use Rattle.checks.proofs.size.Tie as tie
+
+edge-requires : tie.Need-edge-requires
+edge-requires c κs = search needs
+
+resized-requires : tie.Need-resized-requires
+resized-requires c κs = search needs
+
+mul-result : tie.Need-mul-result
+mul-result c =
+    let e = c .before .resized .ensures in
+    sides-fit _ _ (e .2) (e .4)
+
+returns : tie.Need-returns
+unfolding sizeOf
+returns c =
+    let r = c .before in
+    let e = r .resized .ensures in
+    let a = r .before .before .args in
+    (ap (λ (s : Sides). s .w * s .h) (e .0 ∙ ap (λ (k : ℕ). resizedOf k (a .w) (a .h)) (r .before .edge .ensures)), mul-le-mul (e .2) (e .4))
+
+pub size-spec : {M : Type 1} → statement M
+size-spec = tie.close (tie.spec edge-requires resized-requires mul-result returns)
