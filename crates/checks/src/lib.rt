@@ -29,7 +29,15 @@ fn room(cfg: EccConfig, w: usize, h: usize, work: usize, marks: usize) -> u8
 }
 
 // The number of the first check that fails, or 0. The last four numbers are the lengths of template, input, work and marks.
-pub fn check(cfg: EccConfig, w: usize, h: usize, template: usize, input: usize, work: usize, marks: usize) -> u8
+pub fn check(
+    cfg: EccConfig,
+    w: usize,
+    h: usize,
+    template: usize,
+    input: usize,
+    work: usize,
+    marks: usize,
+) -> u8
     ensures { λ r. ⌜ r ≡ checkOf template input w h cfg work marks ⌝ }
 {
     if w > EccConfig::MOST_SIDE {

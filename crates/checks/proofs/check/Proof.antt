@@ -1,6 +1,5 @@
 -- `checks::check` refuses a side above 4,096 first, then a zero side, then a wrong length, then what `settled` refuses. Assumes nothing.
 use mathlib.Core.Path.{sym, _∙_}
-use native.Mathlib.Omega.{arith}
 use borrow.Author.Needs.{needs}
 use borrow.Author.Tests.{lt-ltb, le-ltb, eq-eqb, ne-eqb}
 use Rattle.lists.proofs.Fold.{pick-true, pick-false}

@@ -1,6 +1,5 @@
 -- `checks::room` refuses work below 12n floats and marks below n. Assumes nothing.
 use mathlib.Core.Path.{sym, _∙_}
-use native.Mathlib.Omega.{arith}
 use borrow.Author.Needs.{needs}
 use borrow.Author.Tests.{lt-ltb, le-ltb}
 use Rattle.lists.proofs.Fold.{pick-true, pick-false}

@@ -1,6 +1,5 @@
 -- `checks::settled` refuses an even filter first, then a long filter, then many passes, then short room. Assumes nothing.
 use mathlib.Core.Path.{sym, _∙_}
-use native.Mathlib.Omega.{arith}
 use borrow.Author.Needs.{needs}
 use borrow.Author.Tests.{lt-ltb, le-ltb, eq-eqb, ne-eqb}
 use Rattle.lists.proofs.Fold.{pick-true, pick-false}

@@ -1,5 +1,5 @@
 -- `checks::size` meets its contract. Assumes nothing.
-use mathlib.Core.Path.{_≡_, ap, _∙_}
+use mathlib.Core.Path.{ap, _∙_}
 use Prim.Native.Nat.{ℕ, _*_}
 use native.Mathlib.Nat.{mul-le-mul}
 use borrow.Author.Needs.{needs}
