@@ -7,59 +7,8 @@ mod ecc;
 #[allow(dead_code)]
 #[path = "../oracle/rules.rs"]
 mod rules;
-
-/// a fixed stream of numbers: Knuth's 64-bit linear congruence, its upper half
-struct Stream(u64);
-
-impl Stream {
-    fn next(&mut self) -> u32 {
-        self.0 = self.0.wrapping_mul(6364136223846793005).wrapping_add(1442695040888963407);
-        (self.0 >> 32) as u32
-    }
-
-    fn bytes(&mut self, n: usize) -> Vec<u8> {
-        (0..n).map(|_| self.next() as u8).collect()
-    }
-
-    /// numbers such as images hold: whole and broken ones up to 4,096, of both signs, and some tiny and some large ones
-    fn floats(&mut self, n: usize) -> Vec<f32> {
-        (0..n)
-            .map(|_| {
-                let v = (self.next() % 1_048_576) as f32 / 256.0;
-                let v = if self.next() % 2 == 0 { -v } else { v };
-                match self.next() % 16 {
-                    0 => v * 1e-30,
-                    1 => v * 1e4,
-                    2 => v * 0.0,
-                    _ => v,
-                }
-            })
-            .collect()
-    }
-}
-
-struct Line(String);
-
-impl Line {
-    fn new(kind: u64) -> Line {
-        Line(format!("{:x}", kind))
-    }
-
-    fn words(mut self, ws: &[usize]) -> Line {
-        ws.iter().for_each(|w| self.0 += &format!(" {:x}", w));
-        self
-    }
-
-    fn bytes(mut self, bs: &[u8]) -> Line {
-        bs.iter().for_each(|b| self.0 += &format!(" {:x}", b));
-        self
-    }
-
-    fn floats(mut self, xs: &[f32]) -> Line {
-        xs.iter().for_each(|x| self.0 += &format!(" {:x}", if x.is_nan() { 0x7fc0_0000 } else { x.to_bits() }));
-        self
-    }
-}
+mod lines;
+use lines::{Line, Stream};
 
 fn main() {
     let mut s = Stream(20260102);

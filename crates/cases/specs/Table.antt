@@ -1,14 +1,17 @@
 -- The starred cases of document 01 by their numbers: each line is one claim about the definitions that the contracts cite. Floats stand by their bit patterns.
 use mathlib.Core.Path.{_≡_}
-use Prim.Native.Nat.{ℕ}
+use Prim.Native.Nat.{ℕ, _*_}
 use mathlib.Core.List.{List, [], _∷_, _++_, map}
 use lib.Ieee.{Float, binary32, ofBits, toBits}
-use Rattle.floats.specs.F32.{f32}
+use Rattle.floats.specs.F32.{f32, 0f}
 use Rattle.root.specs.Root.{sqrtOf}
 use Rattle.series.specs.Series.{cosOf, sinOf, expNegOf}
 use Rattle.settings.specs.Sides.{resizedOf}
 use Rattle.resize.specs.Resize.{resizeOf}
 use Rattle.gradients.specs.Gradients.{gradientX}
+use Rattle.marks.specs.Marks.{countOn}
+use Rattle.pose.specs.Pose.{mapOf}
+use Rattle.warp.specs.Warp.{marksOf}
 
 -- an image by the bit patterns of its numbers
 abbrev pub patterns : List Float → List ℕ
@@ -22,7 +25,14 @@ at f b = toBits binary32 (f (ofBits binary32 b))
 abbrev pub eight : List ℕ → List ℕ
 eight r = r ++ (r ++ (r ++ (r ++ (r ++ (r ++ (r ++ r))))))
 
+-- how many pixels of w by h the pose at rest marks
+abbrev pub markedAtRest : ℕ → ℕ → ℕ
+markedAtRest w h = countOn (marksOf (mapOf (record { theta = 0f; tx = 0f; ty = 0f })) w h) (w * h)
+
 pub record Starred : Type 0 where
+  -- 1: at rest 16 pixels of 5x5 are marked, and 12 of 4x5
+  pub marks-of-5x5 : markedAtRest 5 5 ≡ 16
+  pub marks-of-4x5 : markedAtRest 4 5 ≡ 12
   -- 4: 700x350 at edge 350 becomes 350x175; 400x4 becomes 350x8; 400x12 becomes 350x11
   pub sides-halved : resizedOf 350 700 350 ≡ record { w = 350; h = 175 }
   pub side-at-least-8 : resizedOf 350 400 4 ≡ record { w = 350; h = 8 }

@@ -1,21 +1,23 @@
 -- Bounds from tests, of differences of values that are not negative, from below, and exact differences. Assumes nothing.
 use mathlib.Core.Path.{_≡_, refl, sym, ap, _∙_, subst}
-use Prim.Native.Nat.{ℕ, zero, suc, _-_, _*_, _≤_, _<_}
+use Prim.Native.Nat.{ℕ, zero, suc, _-_, _*_, _^_, _≤_, _<_}
 use native.Mathlib.Nat.{lt-irrefl, le-trans, le-of-eq, le-of-lt, lt-of-lt-of-le, zero-mul, mul-comm, mul-assoc, mul-right-comm, mul-pos, mul-le-mul-right, le-of-mul-le-mul-right, mul-sub}
 use native.Mathlib.Omega.{arith}
 use mathlib.Core.Bool.{Bool, true, false, _&&_, _||_, cond, true≢false}
-use lib.Dec.{T, ltb, eqb, ltb→lt, eqb→eq, lit<}
+use lib.Dec.{T, ltb, eqb, ltb→lt, eqb→eq, lit<, lit≤}
+use lib.Ieee.Back.{whole-unique}
 use lib.Arith.{le→nltb}
 use lib.IntN.{ℤ, pos}
-use lib.Ieee.{Float, nan, inf, fin, Format, up, down, round, neg, sum, add, sub, le, mul, unlike}
-use lib.Ieee.Fits.{up-pos, down-pos, and-l}
+use lib.Ieee.{Float, nan, inf, fin, Format, binary32, up, down, round, neg, sum, add, sub, le, mul, unlike}
+use lib.Ieee.Fits.{up-pos, down-pos, and-l, ofInt-fits, sub-fits}
 use lib.Ieee.Bits.{is-false}
 use lib.Ieee.Exact.{HasValue}
 use lib.Ieee.Order.{round-mono}
 use lib.Ieee.Scale.{finite, round-same}
 use Rattle.floats.specs.Bound.{Within, UpTo, AtLeast, Rep}
-use Rattle.floats.proofs.Within.{Signed, round-signed, round-within, or-le, cond-within, le-within}
-use Rattle.floats.proofs.Exactly.{round-rep}
+use Rattle.floats.proofs.Within.{Signed, rep-down, round-signed, round-within, or-le, cond-within, le-within}
+use Rattle.floats.proofs.Exactly.{round-rep, whole-is}
+use Rattle.floats.specs.F32.{_⊖_, f32}
 
 -- ---- from two tests: -y ≤ x ≤ y, y = a / c
 
@@ -159,3 +161,19 @@ mul-signed f (inf i) y s t a c b d h k w = absurd h
 mul-signed f (fin i m e) nan s t a c b d h k w = absurd w
 mul-signed f (fin i m e) (inf j) s t a c b d h k w = absurd w
 mul-signed f (fin i m e) (fin j n g) s t a c b d h k w = rw (← h .0, ← k) (round-signed f (unlike i j) (m * up e * (n * up g)) (down e * down g))
+
+-- a wider whole bound
+pub up-to-more : (x : Float) (a b : ℕ) → a ≤ b → UpTo x a 1 → UpTo x b 1
+up-to-more nan a b l u = absurd u
+up-to-more (inf s) a b l u = absurd u
+up-to-more (fin false m e) a b l u = le-trans u (mul-le-mul-right (down e) l)
+up-to-more (fin true m e) a b l u = u
+
+-- small whole numbers subtract exactly
+pub sub-whole : (a b : ℕ) → b ≤ a → a ≤ 2 ^ 24 → f32 a ⊖ f32 b ≡ f32 (a - b)
+sub-whole a b h k =
+    let r : a - b ≤ 2 ^ 24 = omega arith in
+    let q : b ≤ 2 ^ 24 = omega arith in
+    whole-unique binary32 (f32 a ⊖ f32 b) (f32 (a - b)) false (a - b) (sub-fits binary32 (f32 a) (f32 b)) (ofInt-fits binary32 (pos (a - b)))
+    (sub-exact binary32 (f32 a) (f32 b) a b 1 h (rep-down (a - b) 0 r (lit≤ tt)) (whole-is a k) (whole-is b q))
+    (whole-is (a - b) r)

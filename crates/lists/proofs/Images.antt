@@ -106,6 +106,10 @@ pub image-in : {A : Type 0} (n j k : ℕ) (xs : List A) → j * n + n ≤ k → 
 unfolding image
 image-in n j k xs h = take-drop-take (j * n) n k xs h
 
+-- lists that agree at the front have the same images there
+pub image-agree : {A : Type 0} (n j k : ℕ) (xs ys : List A) → j * n + n ≤ k → take k xs ≡ take k ys → image n j xs ≡ image n j ys
+image-agree n j k xs ys h e = sym (image-in n j k xs h) ∙ ap (image n j) e ∙ image-in n j k ys h
+
 -- ---- a lent part that comes back with puts in it: each put moves out to the whole
 pub mid-put : {A : Type 0} (xs : List A) (a k b : ℕ) (p l : List A) → a ≤ length xs → b + length l ≤ length p →
     take a xs ++ (put p b l ++ drop k (drop a xs)) ≡ put (take a xs ++ (p ++ drop k (drop a xs))) (a + b) l

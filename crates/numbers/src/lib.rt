@@ -17,6 +17,21 @@ pub fn to_f32(n: usize) -> f32
     n as f32
 }
 
+// A number below 2^16 as f32: by way of 16 bits it is one instruction, and a loop takes several at a time.
+pub fn to_f32_short(n: usize) -> f32
+    requires { ⌜ n ≤ 65535 ⌝ }
+    ensures { λ r. ⌜ r ≡ Ieee.ofInt binary32 (pos n) ⌝ }
+{
+    n as u16 as f32
+}
+
+// A byte as an f32, exactly.
+pub fn byte_to_f32(b: u8) -> f32
+    ensures { λ r. ⌜ r ≡ Ieee.ofInt binary32 (pos b) ⌝ }
+{
+    b as f32
+}
+
 // Rust's `x as usize`: the fraction dropped, 0 for a NaN and below zero, usize::MAX from 2^64 on.
 pub fn as_usize(x: f32) -> usize
     ensures { λ r. ⌜ r ≡ Ieee.toUnsigned 64 x ⌝ }
@@ -65,6 +80,19 @@ pub fn floor(x: f32) -> f32
         }
     }
     x
+}
+
+// The floor of an x from 0 to 2^22, with no branch to take: 2^23 is added and taken off, where no f32 has a fraction. A zero comes back
+// with no sign.
+pub fn floor_small(x: f32) -> f32
+    requires { ⌜ UpTo x 4194304 1 ⌝ }
+    ensures { λ r. ⌜ r ≡ Ieee.ofInt binary32 (pos (Ieee.toUnsigned 64 (floorOf x))) ⌝ }
+{
+    let f = (x + 8388608.0) - 8388608.0;
+    if x < f {
+        return f - 1.0;
+    }
+    f
 }
 
 // The whole number nearest to an x from 0 to 2^23, a half going up.

@@ -4,16 +4,8 @@ ghost use mathlib.Core.Path.{_≡_};
 ghost use Prim.Native.Nat.{_+_, _*_, _%_, _≤_};
 ghost use lib.ListN.{length};
 ghost use Rattle.lists.specs.Lists.{put, image, setImage};
-ghost use Rattle.floats.specs.F32.{f32};
 ghost use Rattle.blur.specs.Blur.{rowsOf, columnsOf};
 ghost use Rattle.prepare.specs.Prepared.{grayOf, scaledOf, preparedIn};
-
-// A byte as f32, exactly.
-fn gray(byte: u8) -> f32
-    ensures { λ r. ⌜ r ≡ f32 byte ⌝ }
-{
-    byte as f32
-}
 
 // The front of `out` becomes the bytes as f32.
 fn gray_u8_to_f32(img: &[u8], out: &mut [f32])
@@ -23,7 +15,7 @@ fn gray_u8_to_f32(img: &[u8], out: &mut [f32])
     let n = img.len();
     let mut i = 0;
     while i < n {
-        out[i] = gray(img[i]);
+        out[i] = numbers::byte_to_f32(img[i]);
         i += 1;
     }
 }

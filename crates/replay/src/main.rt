@@ -87,6 +87,12 @@ fn report_images(seen: &[u64], agreed: &[u64]) {
     report(b"prepared images", 22, seen, agreed);
 }
 
+fn report_passes(seen: &[u64], agreed: &[u64]) {
+    report(b"warp_three_inverse_map", 23, seen, agreed);
+    report(b"centered_stats_in_place", 24, seen, agreed);
+    report(b"try_inverse", 25, seen, agreed);
+}
+
 fn main() {
     let mut input = io::large_buffer();
     let mut held = [0u64; 4096];
@@ -111,4 +117,5 @@ fn main() {
     }
     report_helpers(seen, agreed);
     report_images(seen, agreed);
+    report_passes(seen, agreed);
 }

@@ -18,7 +18,7 @@ use Rattle.floats.proofs.Within.{Signed, within-more, add-within, sub-within, m
 use Rattle.floats.proofs.Exactly.{whole-is, value-over, value-within, one-value, whole-within}
 use Rattle.floats.proofs.Fraction.{fraction}
 use Rattle.resize.specs.Resize.{placeOf, tapOf, blendOf, byteOf, sampleOf, resizeOf}
-use Rattle.resize.proofs.Cast.{cast-negative}
+use Rattle.numbers.proofs.Cast.{cast-negative}
 use Rattle.resize.proofs.Inside.{Placed, before-first, inside, placed, place-fits, under, first-cast}
 
 -- ---- weights

@@ -20,7 +20,7 @@ use Rattle.floats.proofs.Exactly.{whole-is, value-over, value-within, add-exact
 use Rattle.floats.proofs.Patterns.{lt-or-le}
 use Rattle.resize.specs.Resize.{placeOf, firstOf, tapOf}
 use Rattle.floats.proofs.Signs.{mul-signed}
-use Rattle.resize.proofs.Cast.{cast-negative, cast-floor-max}
+use Rattle.numbers.proofs.Cast.{cast-negative, cast-floor-max}
 
 -- ---- an f32 p / 2 ^ k between src / dst and src / (dst - 1/2)
 

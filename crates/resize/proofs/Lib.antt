@@ -1,3 +1,2 @@
-pub mod Cast
 pub mod Inside
 pub mod Bounds

@@ -77,19 +77,12 @@ fn column(src: usize, dst: usize, firsts: &[usize], weights: &[f32], x: usize) -
     }
 }
 
-// A byte as f32.
-fn byte(b: u8) -> f32
-    ensures { λ r. ⌜ r ≡ f32 b ⌝ }
-{
-    b as f32
-}
-
 // The byte in column x of row y.
 fn gray(src: &[u8], w: usize, x: usize, y: usize) -> f32
     requires { ⌜ (x < w) × («y» * w + w ≤ length (now src)) ⌝ }
     ensures { λ r. ⌜ r ≡ byteOf (now (src .entry)) w x y ⌝ }
 {
-    byte(src[y * w + x])
+    numbers::byte_to_f32(src[y * w + x])
 }
 
 // From a to b, by the weight of b.

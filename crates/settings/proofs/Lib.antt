@@ -1,2 +1,1 @@
-pub mod General
 pub mod Resizing

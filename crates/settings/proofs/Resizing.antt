@@ -21,7 +21,7 @@ use Rattle.settings.specs.Sides.{scaledOf, sideOf, resizedOf}
 use Rattle.settings.specs.declared.Sides.{Sides}
 use Rattle.floats.proofs.Upward.{value-upto, round-upto, mul-upto}
 use Rattle.floats.proofs.Casts.{cast-within}
-use Rattle.settings.proofs.General.{roundOf-within}
+use Rattle.numbers.proofs.Rounded.{roundOf-within}
 
 -- ---- one side
 

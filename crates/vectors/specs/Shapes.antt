@@ -1,7 +1,7 @@
 -- Sides and pixels that fit the arrays of the tests. Definitions only.
 use Prim.Native.Nat.{_*_, _≤_}
 use mathlib.Core.Path.{_≡_}
-use Rattle.vectors.specs.declared.images.Shape.{Shape}
+use Rattle.vectors.specs.declared.shapes.Shape.{Shape}
 
 pub record Fitting (s : Shape) : Type 0 where
   pub few : s .n ≤ 1024

@@ -1,78 +1,11 @@
 // The image stages: sides, resize, kernel, blur, gradients, prepared images. Images are small enough for local arrays.
-ghost use mathlib.Core.Path.{_≡_};
-ghost use Prim.Native.Nat.{_*_, _%_, _≤_};
-ghost use Rattle.vectors.specs.Shapes.{Fitting};
+use crate::shapes::filter;
+use crate::shapes::side;
+use crate::shapes::sides_at;
 use crate::words::bytes;
 use crate::words::floats;
 use crate::words::same_floats;
 use crate::words::word;
-
-// A side up to 4,096, or 0 where the word is more.
-fn side(words: &[u64], i: usize) -> usize
-    ensures { λ r. ⌜ r ≤ 4096 ⌝ }
-{
-    let v = word(words, i);
-    if v <= 4096 { v as usize } else { 0 }
-}
-
-// An image's sides and pixels, within the local arrays; where the words are no such sides, a single pixel and `ok` false.
-pub struct Shape {
-    pub w: usize,
-    pub h: usize,
-    pub n: usize,
-    pub ok: bool,
-}
-
-fn no_shape() -> Shape
-    ensures { λ r. ⌜ Fitting r ⌝ }
-{
-    Shape {
-        w: 1,
-        h: 1,
-        n: 1,
-        ok: false,
-    }
-}
-
-fn sides_at(words: &[u64], i: usize) -> Shape
-    requires { ⌜ i ≤ 8 ⌝ }
-    ensures { λ r. ⌜ Fitting r ⌝ }
-{
-    let w = side(words, i);
-    let h = side(words, i + 1);
-    if w == 0 {
-        return no_shape();
-    }
-    if h == 0 {
-        return no_shape();
-    }
-    let n = area(w, h);
-    if n > 1024 {
-        return no_shape();
-    }
-    Shape { w, h, n, ok: true }
-}
-
-// An odd number up to 31, or 1.
-fn filter(words: &[u64], i: usize) -> usize
-    ensures { λ r. ⌜ (r % 2 ≡ 1) × (r ≤ 31) ⌝ }
-{
-    let v = word(words, i);
-    if v > 31 {
-        return 1;
-    }
-    if v % 2 == 0 {
-        return 1;
-    }
-    v as usize
-}
-
-fn area(w: usize, h: usize) -> usize
-    requires { ⌜ (w ≤ 4096) × (h ≤ 4096) ⌝ }
-    ensures { λ r. ⌜ r ≡ w * h ⌝ }
-{
-    w * h
-}
 
 // edge, w, h; the sides after.
 fn sides(words: &[u64]) -> bool {
@@ -127,7 +60,7 @@ fn blurred(words: &[u64]) -> bool {
         return false;
     }
     let mut part = [0.0f32; 3072];
-    floats(words, 4, &mut part);
+    floats(words, 4, s.n, &mut part, 0);
     blur::gaussian_blur_separable(&mut part, s.w, s.h, ksize);
     same_floats(words, 4 + s.n, s.n, &part, 2 * s.n)
 }
@@ -139,7 +72,7 @@ fn gradient(words: &[u64], across: bool) -> bool {
         return false;
     }
     let mut part = [0.0f32; 3072];
-    floats(words, 3, &mut part);
+    floats(words, 3, s.n, &mut part, 0);
     if across {
         gradients::gradient_x(&mut part, s.w, s.h);
         return same_floats(words, 3 + s.n, s.n, &part, s.n);

@@ -3,6 +3,8 @@
 mod helpers;
 mod images;
 mod line;
+mod passes;
+mod shapes;
 mod words;
 
 pub use line::Line;
@@ -15,5 +17,8 @@ pub fn agrees(words: &[u64]) -> bool {
     if kind < 16 {
         return helpers::agrees(kind, words);
     }
-    images::agrees(kind, words)
+    if kind < 23 {
+        return images::agrees(kind, words);
+    }
+    passes::agrees(kind, words)
 }

@@ -29,11 +29,17 @@ pub fn bytes(words: &[u64], from: usize, out: &mut [u8]) {
     }
 }
 
-// The words from `from` on, as floats.
-pub fn floats(words: &[u64], from: usize, out: &mut [f32]) {
+// The n words from `from` on, as floats, from the place `at` on; nothing where there is no room.
+pub fn floats(words: &[u64], from: usize, n: usize, out: &mut [f32], at: usize) {
+    if at > out.len() {
+        return;
+    }
+    if n > out.len() - at {
+        return;
+    }
     let mut i = 0;
-    while i < out.len() {
-        out[i] = float(word_after(words, from, i));
+    while i < n {
+        out[at + i] = float(word_after(words, from, i));
         i += 1;
     }
 }
@@ -60,6 +66,22 @@ pub fn same_floats(words: &[u64], from: usize, n: usize, xs: &[f32], at: usize) 
     let mut i = 0;
     while i < n {
         if !same(xs[at + i], word_after(words, from, i)) {
+            all = false;
+        }
+        i += 1;
+    }
+    all
+}
+
+// Whether the first n bytes are those of the words from `from` on.
+pub fn same_bytes(words: &[u64], from: usize, n: usize, xs: &[u8]) -> bool {
+    if n > xs.len() {
+        return false;
+    }
+    let mut all = true;
+    let mut i = 0;
+    while i < n {
+        if xs[i] != (word_after(words, from, i) % 256) as u8 {
             all = false;
         }
         i += 1;

@@ -21,11 +21,11 @@ abbrev μ-loop : tie.MeasureT-loop
 loop-holds : tie.Need-loop-holds Inv-loop μ-loop
 loop-holds c = (search needs, refl, fill-none _ _ _)
 
-shared-slice-read-gray : tie.Need-shared-slice-read-gray Inv-loop μ-loop
-shared-slice-read-gray c = search needs
+shared-slice-read-byte-to-f32 : tie.Need-shared-slice-read-byte-to-f32 Inv-loop μ-loop
+shared-slice-read-byte-to-f32 c = search needs
 
-gray-requires : tie.Need-gray-requires Inv-loop μ-loop
-gray-requires c κs = search needs
+byte-to-f32-requires : tie.Need-byte-to-f32-requires Inv-loop μ-loop
+byte-to-f32-requires c κs = search needs
 
 mul-out : tie.Need-mul-out Inv-loop μ-loop
 mul-out c = search needs
@@ -45,7 +45,7 @@ loop-again c =
     let a = l .before .before .before .args in (
       omega arith,
       simp length-set (l .loop .inv .1),
-      rw (l .loop .inv .2) (front-more (now (a .out)) (grayAt (now (a .img))) (l .loop .i) (c .gray .result) (omega arith) (c .gray .ensures)),
+      rw (l .loop .inv .2) (front-more (now (a .out)) (grayAt (now (a .img))) (l .loop .i) (c .byte-to-f32 .result) (omega arith) (c .byte-to-f32 .ensures)),
     )
 
 same-length : tie.Need-same-length Inv-loop μ-loop
@@ -64,8 +64,8 @@ gray-u8-to-f32-spec =
     Inv-loop
     μ-loop
     loop-holds
-    shared-slice-read-gray
-    gray-requires
+    shared-slice-read-byte-to-f32
+    byte-to-f32-requires
     mul-out
     slice-write-out
     add-i

@@ -60,6 +60,9 @@ report-helpers-requires c κs = search needs
 report-images-requires : tie.Need-report-images-requires Inv-loop μ-loop
 report-images-requires c κs = search needs
 
+report-passes-requires : tie.Need-report-passes-requires Inv-loop μ-loop
+report-passes-requires c κs = search needs
+
 returns : tie.Need-returns Inv-loop μ-loop
 returns c = search needs
 
@@ -86,4 +89,5 @@ main-spec =
     loop-again
     report-helpers-requires
     report-images-requires
+    report-passes-requires
     returns)

@@ -1,0 +1,34 @@
+-- Document 000's means_over_mask and centered_stats_in_place. Every sum is one fold over the pixels in row order that passes unmarked ones by. Definitions only.
+use Prim.Native.Nat.{ℕ}
+use mathlib.Core.Path.{_≡_}
+use mathlib.Core.List.{List}
+use lib.ListN.{getD}
+use lib.Ieee.{Float, nan}
+use Rattle.lists.specs.Lists.{tab, image, setImage}
+use Rattle.lists.specs.Marked.{pick}
+use Rattle.marks.specs.Marks.{on, countOn}
+use Rattle.floats.specs.F32.{_⊖_, _⊗_, _⊘_, f32, 0f}
+use Rattle.floats.specs.Sums.{sumOver}
+use Rattle.root.specs.Root.{sqrtOf}
+use Rattle.stats.specs.declared.Stats.{Stats}
+
+-- the mean over the marked pixels: sa / n, n the marked count
+unfoldable pub meanOf : List ℕ → ℕ → List Float → Float
+meanOf marks n xs = sumOver (on marks) (λ i. getD xs i nan) n ⊘ f32 (countOn marks n)
+
+-- template_zm or image_zm: the pixel less the mean, 0 where it is not marked
+unfoldable pub centredOf : List ℕ → ℕ → List Float → List Float
+centredOf marks n xs = let mean = meanOf marks n xs in tab n (λ i. pick (on marks i) (getD xs i nan ⊖ mean) 0f)
+
+-- the sum of products: t_ss, i_ss and corr
+unfoldable pub productOf : List ℕ → ℕ → List Float → List Float → Float
+productOf marks n xs ys = sumOver (on marks) (λ i. getD xs i nan ⊗ getD ys i nan) n
+
+-- (t_ss.sqrt(), i_ss.sqrt(), corr) of the centred images
+unfoldable pub statsOf : List ℕ → ℕ → List Float → List Float → Stats
+statsOf marks n tz iz = record { «tmp_norm» = sqrtOf (productOf marks n tz tz); «img_norm» = sqrtOf (productOf marks n iz iz); corr = productOf marks n tz iz }
+
+-- the part afterwards, and the answer
+pub record Centred (marks : List ℕ) (n : ℕ) (xs xs′ : List Float) (r : Stats) : Type 0 where
+  pub images : xs′ ≡ setImage n 5 (centredOf marks n (image n 0 xs)) (setImage n 4 (centredOf marks n (image n 3 xs)) xs)
+  pub answer : r ≡ statsOf marks n (centredOf marks n (image n 3 xs)) (centredOf marks n (image n 0 xs))

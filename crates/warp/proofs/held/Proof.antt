@@ -1,0 +1,14 @@
+-- `warp::held` meets its contract. Assumes nothing.
+use mathlib.Core.Path.{sym}
+use Rattle.lists.proofs.Fold.{pick-true, pick-false}
+use Rattle.warp.proofs.held.Statement.{statement}
+use Rattle.warp.proofs.held.Tie as tie
+
+returns : tie.Need-returns
+returns c = sym (pick-true (c .before .args .within) _ _ (c .if1 .taken))
+
+returns-2 : tie.Need-returns-2
+returns-2 c = sym (pick-false (c .before .args .within) _ _ (c .if1 .left))
+
+pub held-spec : {M : Type 1} → statement M
+held-spec = tie.close (tie.spec returns returns-2)

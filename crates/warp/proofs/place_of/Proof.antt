@@ -1,0 +1,121 @@
+-- `warp::place_of` meets its contract. Outside, the point is held to 0, so that its whole parts are small all the same. Assumes nothing.
+use Prim.Native.Nat.{_+_, _*_}
+use mathlib.Core.Path.{_≡_, ap, ap₂, _∙_}
+use mathlib.Core.Bool.{Bool}
+use native.Mathlib.Omega.{arith}
+use borrow.Author.Needs.{needs}
+use lib.Dec.{T}
+use lib.Ieee.{Float, binary32, inUnsigned, toUnsigned}
+use Rattle.lists.specs.Marked.{pick}
+use Rattle.floats.specs.F32.{_⊕_, _⊖_, _⊗_, f32, 0f}
+use Rattle.numbers.proofs.Small.{Below}
+use Rattle.warp.specs.Warp.{inside, markedAt}
+use Rattle.warp.specs.Places.{indexOf}
+use Rattle.warp.proofs.Pixel.{heldX, heldY, held-x, held-y, spot-is, place-of}
+use Rattle.warp.proofs.place_of.Statement.{statement}
+use Rattle.warp.proofs.place_of.Tie as tie
+
+-- ---- the point, held to 0 outside
+abbrev marked : tie.Start → Bool
+marked s = let a = s .args in markedAt (a .map) (a .w) (a .h) (a .x) (a .y)
+
+abbrev tx : tie.Start → Float
+tx s = let a = s .args in heldX (a .map) (a .w) (a .h) (a .x) (a .y)
+
+abbrev ty : tie.Start → Float
+ty s = let a = s .args in heldY (a .map) (a .w) (a .h) (a .x) (a .y)
+
+below-x : (s : tie.Start) → Below (tx s) 4096
+below-x s = let a = s .args in held-x (a .map) (a .w) (a .h) (a .x) (a .y) (omega arith) (omega arith)
+
+below-y : (s : tie.Start) → Below (ty s) 4096
+below-y s = let a = s .args in held-y (a .map) (a .w) (a .h) (a .x) (a .y) (omega arith) (omega arith)
+
+within-is : (c : tie.After-held2) → c .before .before .is-inside .result ≡ marked (c .before .before .before .before .before)
+unfolding markedAt
+within-is c =
+    let a = c .before .before .before .before .before .args in
+    c .before .before .is-inside .ensures ∙ ap₂ (inside (a .w) (a .h)) (c .before .before .before .before .point-x .ensures) (c .before .before .before .point-y .ensures)
+
+x-is : (c : tie.After-held2) → c .before .held .result ≡ tx (c .before .before .before .before .before)
+x-is c = c .before .held .ensures ∙ ap₂ (λ (b : Bool) (s : Float). pick b s 0f) (within-is c) (c .before .before .before .before .point-x .ensures)
+
+y-is : (c : tie.After-held2) → c .held2 .result ≡ ty (c .before .before .before .before .before)
+y-is c = c .held2 .ensures ∙ ap₂ (λ (b : Bool) (s : Float). pick b s 0f) (within-is c) (c .before .before .before .point-y .ensures)
+
+-- ---- its whole parts, and the place that they give
+x0-is : (c : tie.After-floor-small2) → c .before .floor-small .result ≡ f32 (indexOf (tx (c .before .before .before .before .before .before .before)))
+unfolding indexOf
+x0-is c = c .before .floor-small .ensures ∙ ap (λ (s : Float). f32 (indexOf s)) (x-is (c .before .before))
+
+y0-is : (c : tie.After-floor-small2) → c .floor-small2 .result ≡ f32 (indexOf (ty (c .before .before .before .before .before .before .before)))
+unfolding indexOf
+y0-is c = c .floor-small2 .ensures ∙ ap (λ (s : Float). f32 (indexOf s)) (y-is (c .before .before))
+
+spot : (c : tie.After-to-f32-short) →
+    let s = c .before .before .before .before .before .before .before .before in
+    let v = c .before .floor-small2 .result ⊗ c .to-f32-short .result ⊕ c .before .before .floor-small .result in
+    T (inUnsigned binary32 32 v) × (toUnsigned 32 v ≡ indexOf (ty s) * s .args .w + indexOf (tx s))
+unfolding indexOf
+spot c =
+    let d = c .before in
+    let s = d .before .before .before .before .before .before .before in
+    rw (y0-is d, x0-is d, c .to-f32-short .ensures) (spot-is (s .args .w) _ _ (omega arith) (below-x s .index) (below-y s .index))
+
+point-x-requires : tie.Need-point-x-requires
+point-x-requires c κs = search needs
+
+point-y-requires : tie.Need-point-y-requires
+point-y-requires c κs = search needs
+
+is-inside-requires : tie.Need-is-inside-requires
+is-inside-requires c κs = search needs
+
+held-requires : tie.Need-held-requires
+held-requires c κs = search needs
+
+held-requires-2 : tie.Need-held-requires-2
+held-requires-2 c κs = search needs
+
+floor-small-requires : tie.Need-floor-small-requires
+floor-small-requires c κs = rw (x-is c) (below-x (c .before .before .before .before .before) .small)
+
+floor-small-requires-2 : tie.Need-floor-small-requires-2
+floor-small-requires-2 c κs = rw (y-is (c .before)) (below-y (c .before .before .before .before .before .before) .small)
+
+to-f32-short-requires : tie.Need-to-f32-short-requires
+to-f32-short-requires c κs = search needs
+
+index-requires : tie.Need-index-requires
+index-requires c κs = spot c .0
+
+byte-requires : tie.Need-byte-requires
+byte-requires c κs = search needs
+
+returns : tie.Need-returns
+returns c =
+    let f = c .before .before .before in
+    let d = f .before .before in
+    let a = d .before .before .before .before .before .args in
+    place-of (a .map) (a .w) (a .h) (a .x) (a .y) _ (c .byte .ensures ∙ ap (λ (b : Bool). pick b 1 0) (within-is d))
+    (record {
+      at-is = c .before .index .ensures ∙ spot (c .before .before) .1;
+      across-is = ap₂ _⊖_ (x-is d) (x0-is f);
+      down-is = ap₂ _⊖_ (y-is d) (y0-is f);
+    })
+
+pub place-of-spec : {M : Type 1} → statement M
+place-of-spec =
+    tie.close
+    (tie.spec
+    point-x-requires
+    point-y-requires
+    is-inside-requires
+    held-requires
+    held-requires-2
+    floor-small-requires
+    floor-small-requires-2
+    to-f32-short-requires
+    index-requires
+    byte-requires
+    returns)

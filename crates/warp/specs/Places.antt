@@ -1,0 +1,77 @@
+-- What the warp's inner functions say of a row: where its pixels lie in the source, and what is read there. Definitions only.
+use Prim.Native.Nat.{ℕ, _+_, _*_, _<_}
+use mathlib.Core.Bool.{Bool, true}
+use mathlib.Core.Path.{_≡_}
+use mathlib.Core.List.{List}
+use lib.ListN.{getD}
+use lib.Ieee.{Float, nan, toUnsigned}
+use Rattle.lists.specs.Lists.{tab, put, image}
+use Rattle.lists.specs.Marked.{pick}
+use Rattle.marks.specs.Marks.{on, countOn}
+use Rattle.floats.specs.F32.{_⊕_, _⊖_, _⊗_, f32, 0f, 1f}
+use Rattle.numbers.specs.Numbers.{floorOf}
+use Rattle.pose.specs.declared.Map.{Map}
+use Rattle.warp.specs.declared.Place.{Place}
+use Rattle.warp.specs.declared.Three.{Three}
+use Rattle.warp.specs.Warp.{sxOf, syOf, markedAt, sampleOf, marksOf}
+
+-- the index of a coordinate: the column or row of the pixel that it lies in
+unfoldable pub indexOf : Float → ℕ
+indexOf s = toUnsigned 64 (floorOf s)
+
+-- of the point sx, sy: where the top left of its four pixels lies in an image, and the weights of the right and of the lower ones
+pub record PlaceAt (w : ℕ) (sx sy : Float) (at : ℕ) (across down : Float) : Type 0 where
+  pub at-is : at ≡ indexOf sy * w + indexOf sx
+  pub across-is : across ≡ sx ⊖ f32 (indexOf sx)
+  pub down-is : down ≡ sy ⊖ f32 (indexOf sy)
+
+-- the mark of the pixel x, y
+unfoldable pub markOf : Map → ℕ → ℕ → ℕ → ℕ → ℕ
+markOf map w h x y = pick (markedAt map w h x y) 1 0
+
+-- the mark of a pixel, and the place of one that is marked
+pub record PlaceOf (map : Map) (w h x y : ℕ) (p : Place) : Type 0 where
+  pub mark-is : p .mark ≡ markOf map w h x y
+  pub place-is : markedAt map w h x y ≡ true → PlaceAt w (sxOf map x y) (syOf map x y) (p .at) (p .across) (p .down)
+
+-- the same of the first k pixels of the row y, held in three lists
+pub record Placed (map : Map) (w h y k : ℕ) (spots : List ℕ) (across down : List Float) : Type 0 where
+  pub places-are : (x : ℕ) → x < k → markedAt map w h x y ≡ true → PlaceAt w (sxOf map x y) (syOf map x y) (getD spots x 0) (getD across x nan) (getD down x nan)
+
+-- a row's places, its marks, and the count of the marks up to its end
+pub record PlacesOf (map : Map) (w h y : ℕ) (ms spots : List ℕ) (across down : List Float) (ms′ : List ℕ) (r : ℕ) : Type 0 where
+  pub placed : Placed map w h y w spots across down
+  pub marked : ms′ ≡ put ms (y * w) (tab w (λ x. markOf map w h x y))
+  pub counted : r ≡ countOn (marksOf map w h) (y * w + w)
+
+-- four pixels, the top left one at i, weighed and added
+unfoldable pub blendOf : List Float → ℕ → ℕ → Float → Float → Float
+blendOf src w i a b = getD src i nan ⊗ ((1f ⊖ a) ⊗ (1f ⊖ b)) ⊕ getD src (i + 1) nan ⊗ (a ⊗ (1f ⊖ b)) ⊕ getD src (i + w) nan ⊗ ((1f ⊖ a) ⊗ b) ⊕ getD src (i + w + 1) nan ⊗ (a ⊗ b)
+
+-- the same in each of the images 0 to 2, and 0 where the pixel is not marked
+pub record ThreeOf (n w i : ℕ) (a b : Float) (marked : Bool) (xs : List Float) (p : Three) : Type 0 where
+  pub first : p .0 ≡ pick marked (blendOf (image n 0 xs) w i a b) 0f
+  pub second : p .1 ≡ pick marked (blendOf (image n 1 xs) w i a b) 0f
+  pub third : p .2 ≡ pick marked (blendOf (image n 2 xs) w i a b) 0f
+
+-- of the marks and places of a row that starts at `row`: the four pixels of each marked one lie within the image of n
+pub record Reach (n w row : ℕ) (ms spots : List ℕ) : Type 0 where
+  pub reach : (x : ℕ) → x < w → on ms (row + x) ≡ true → getD spots x 0 + w + 1 < n
+
+-- what is read for column x of that row in image k
+unfoldable pub readOf : ℕ → ℕ → ℕ → List ℕ → List ℕ → List Float → List Float → List Float → ℕ → ℕ → Float
+readOf n w row ms spots across down xs k x = pick (on ms (row + x)) (blendOf (image n k xs) w (getD spots x 0) (getD across x nan) (getD down x nan)) 0f
+
+-- the first m numbers of three rows put into the images 3 to 5, where they start at `row`: f k x in column x, for the images k from 0 to 2
+abbrev pub threeRows : ℕ → ℕ → ℕ → (ℕ → ℕ → Float) → List Float → List Float
+threeRows n row m f xs = put (put (put xs (3 * n + row) (tab m (f 0))) (4 * n + row) (tab m (f 1))) (5 * n + row) (tab m (f 2))
+
+-- a warped pixel
+unfoldable pub pixelOf : List Float → Map → ℕ → ℕ → ℕ → ℕ → Float
+pixelOf src map w h x y = pick (markedAt map w h x y) (sampleOf src w (sxOf map x y) (syOf map x y)) 0f
+
+-- the row y of the three images and of the marks, and the count of the marks up to its end
+pub record RowOf (map : Map) (w h y : ℕ) (xs : List Float) (ms : List ℕ) (xs′ : List Float) (ms′ : List ℕ) (r : ℕ) : Type 0 where
+  pub images : let n = w * h in xs′ ≡ threeRows n (y * w) w (λ k x. pixelOf (image n k xs) map w h x y) xs
+  pub marked : ms′ ≡ put ms (y * w) (tab w (λ x. markOf map w h x y))
+  pub counted : r ≡ countOn (marksOf map w h) (y * w + w)
