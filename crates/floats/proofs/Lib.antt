@@ -10,3 +10,4 @@ pub mod Units
 pub mod Upward
 pub mod Casts
 pub mod Sums
+pub mod Products

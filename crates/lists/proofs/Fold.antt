@@ -67,3 +67,20 @@ over-agree {S} m m' step step' s (suc n) e f =
     let h = over-agree m m' step step' s n (λ i l. e i (omega arith)) (λ t i l. f t i (omega arith)) in
     pick-agree (m n) (m' n) (step (overMarked m step s n) n) (step' (overMarked m' step' s n) n) (overMarked m step s n) (overMarked m' step' s n) (e n (omega arith))
     (λ c. f (overMarked m step s n) n (omega arith) c ∙ ap (λ (t : S). step' t n) h) h
+
+-- a part p of what a fold carries, where p of a step depends on p alone, is a fold of its own
+pick-part : {S T : Type 0} (p : S → T) (b : Bool) (x y : S) → p (pick b x y) ≡ pick b (p x) (p y)
+unfolding pick
+pick-part p true x y = refl
+pick-part p false x y = refl
+
+pub over-part : {S T : Type 0} (p : S → T) (m : ℕ → Bool) (step : S → ℕ → S) (step′ : T → ℕ → T) (s : S) (t : T) (n : ℕ) → p s ≡ t →
+    ((u : S) (i : ℕ) → i < n → m i ≡ true → p (step u i) ≡ step′ (p u) i) →
+    p (overMarked m step s n) ≡ overMarked m step′ t n
+unfolding overMarked
+over-part p m step step′ s t zero e f = e
+over-part {S} {T} p m step step′ s t (suc n) e f =
+    let so-far = over-part p m step step′ s t n e (λ u i l. f u i (omega arith)) in
+    pick-part p (m n) (step (overMarked m step s n) n) (overMarked m step s n)
+    ∙ pick-agree (m n) (m n) (p (step (overMarked m step s n) n)) (step′ (overMarked m step′ t n) n) (p (overMarked m step s n)) (overMarked m step′ t n) refl
+    (λ c. f (overMarked m step s n) n (omega arith) c ∙ ap (λ (v : T). step′ v n) so-far) so-far

@@ -101,6 +101,10 @@ pub getD-image : {A : Type 0} (n k i : ℕ) (xs : List A) (d : A) → i < n → 
 unfolding image
 getD-image n k i xs d h = getD-take n (drop (k * n) xs) i d h ∙ getD-drop (k * n) xs i d
 
+-- a is the place of number i of image k
+pub getD-place : {A : Type 0} (n k i a : ℕ) (xs : List A) (d : A) → i < n → a ≡ k * n + i → getD xs a d ≡ getD (image n k xs) i d
+getD-place n k i a xs d h e = ap (λ (j : ℕ). getD xs j d) e ∙ sym (getD-image n k i xs d h)
+
 -- an image that lies within the first k numbers
 pub image-in : {A : Type 0} (n j k : ℕ) (xs : List A) → j * n + n ≤ k → image n j (take k xs) ≡ image n j xs
 unfolding image

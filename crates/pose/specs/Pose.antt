@@ -9,7 +9,7 @@ use Rattle.pose.specs.declared.Map.{Map}
 use Rattle.pose.specs.declared.Pose.{Pose}
 use Rattle.pose.specs.declared.Answer.{Answer}
 use Rattle.pose.specs.declared.Answer.the-variants.{Posed, Refused}
-use Rattle.pose.specs.declared.Matrix.{Matrix}
+use Rattle.inverse.specs.declared.Matrix3.{Matrix3}
 
 -- [[ct, -st, tx], [st, ct, ty]]
 unfoldable pub mapOf : Pose → Map
@@ -20,19 +20,19 @@ unfoldable pub isPose : Float → Float → Float → Bool
 isPose theta tx ty = le (neg 2f) theta && le theta 2f && finite tx && finite ty
 
 -- identity3()
-unfoldable pub identity : Matrix
+unfoldable pub identity : Matrix3
 identity = record { m00 = 1f; m01 = 0f; m02 = 0f; m10 = 0f; m11 = 1f; m12 = 0f; m20 = 0f; m21 = 0f; m22 = 1f }
 
 -- [ct, -st, tx], [st, ct, ty], [0, 0, 1]
-unfoldable pub turnedOf : Float → Float → Float → Matrix
+unfoldable pub turnedOf : Float → Float → Float → Matrix3
 turnedOf theta tx ty = let ct = cosOf theta in let st = sinOf theta in record { m00 = ct; m01 = neg st; m02 = tx; m10 = st; m11 = ct; m12 = ty; m20 = 0f; m21 = 0f; m22 = 1f }
 
 -- the matrix of a pose: identity3 for a theta, tx or ty that is not finite, and for a theta outside -2..2
-unfoldable pub posedMatrix : Float → Float → Float → Matrix
+unfoldable pub posedMatrix : Float → Float → Float → Matrix3
 posedMatrix theta tx ty = pick (isPose theta tx ty) (turnedOf theta tx ty) identity
 
 -- the matrix of an answer: identity3 for a refusal
-unfoldable pub matrixOf : Answer → Matrix
+unfoldable pub matrixOf : Answer → Matrix3
 unfolding identity posedMatrix
 matrixOf (Refused k) = identity
 matrixOf (Posed theta tx ty rho) = posedMatrix theta tx ty

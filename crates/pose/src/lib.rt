@@ -2,6 +2,7 @@
 ghost use mathlib.Core.Path.{_≡_};
 ghost use Rattle.floats.specs.Bound.{Within};
 ghost use Rattle.pose.specs.Pose.{mapOf, identity, isPose, turnedOf, posedMatrix, matrixOf};
+use inverse::Matrix3;
 
 // The running pose.
 pub struct Pose {
@@ -37,19 +38,6 @@ pub struct Outcome {
     pub answer: Answer,
 }
 
-// The matrix of an answer.
-pub struct Matrix {
-    pub m00: f32,
-    pub m01: f32,
-    pub m02: f32,
-    pub m10: f32,
-    pub m11: f32,
-    pub m12: f32,
-    pub m20: f32,
-    pub m21: f32,
-    pub m22: f32,
-}
-
 // The first two rows of a pose's matrix.
 pub fn affine_from_theta_tx_ty(pose: Pose) -> Map
     requires { ⌜ Within (pose .theta) 2 1 ⌝ }
@@ -67,10 +55,10 @@ pub fn affine_from_theta_tx_ty(pose: Pose) -> Map
     }
 }
 
-fn identity3() -> Matrix
+fn identity3() -> Matrix3
     ensures { λ r. ⌜ r ≡ identity ⌝ }
 {
-    Matrix {
+    Matrix3 {
         m00: 1.0,
         m01: 0.0,
         m02: 0.0,
@@ -84,13 +72,13 @@ fn identity3() -> Matrix
 }
 
 // [ct, -st, tx], [st, ct, ty], [0, 0, 1]
-fn turned(theta: f32, tx: f32, ty: f32) -> Matrix
+fn turned(theta: f32, tx: f32, ty: f32) -> Matrix3
     requires { ⌜ Within theta 2 1 ⌝ }
     ensures { λ r. ⌜ r ≡ turnedOf theta tx ty ⌝ }
 {
     let ct = series::cos(theta);
     let st = series::sin(theta);
-    Matrix {
+    Matrix3 {
         m00: ct,
         m01: -st,
         m02: tx,
@@ -119,7 +107,7 @@ pub fn is_pose(theta: f32, tx: f32, ty: f32) -> bool
     false
 }
 
-fn posed_matrix(theta: f32, tx: f32, ty: f32) -> Matrix
+fn posed_matrix(theta: f32, tx: f32, ty: f32) -> Matrix3
     ensures { λ r. ⌜ r ≡ posedMatrix theta tx ty ⌝ }
 {
     if is_pose(theta, tx, ty) {
@@ -130,7 +118,7 @@ fn posed_matrix(theta: f32, tx: f32, ty: f32) -> Matrix
 }
 
 // The matrix of any answer: the identity for a refusal, for a number that is not finite and for a theta outside -2..2.
-pub fn matrix_of(a: Answer) -> Matrix
+pub fn matrix_of(a: Answer) -> Matrix3
     ensures { λ r. ⌜ r ≡ matrixOf a ⌝ }
 {
     match a {

@@ -17,7 +17,7 @@ use Rattle.root.specs.Root.{sqrtOf}
 use Rattle.stats.specs.Stats.{meanOf, centredOf, productOf, statsOf, Centred}
 use Rattle.stats.specs.declared.Means.{Means}
 use Rattle.stats.specs.declared.Products.{Products}
-use Rattle.stats.proofs.General.{getD-place}
+use Rattle.lists.proofs.Images.{getD-place}
 use Rattle.stats.proofs.Turns.{turn-marked, turn-passed, sum-part, product-part}
 
 -- ---- the means

@@ -8,12 +8,11 @@ use borrow.Author.Tests.{eq-eqb, ne-eqb}
 use lib.ListN.{getD}
 use lib.Ieee.{Float, nan}
 use Rattle.lists.specs.Marked.{overMarked}
-use Rattle.lists.proofs.Fold.{over-marked, over-passed}
+use Rattle.lists.proofs.Fold.{over-marked, over-passed, over-part}
 use Rattle.marks.specs.Marks.{on}
 use Rattle.floats.specs.F32.{_⊕_, _⊗_, 0f}
 use Rattle.floats.specs.Sums.{sumOver}
 use Rattle.stats.specs.Stats.{productOf}
-use Rattle.stats.proofs.General.{over-part}
 
 -- ---- one more place
 module _ {S : Type 0} (ms : List ℕ) (step : S → ℕ → S) (s : S) (i : ℕ) (t : S) (so-far : t ≡ overMarked (on ms) step s i) where

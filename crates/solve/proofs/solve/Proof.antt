@@ -1,0 +1,126 @@
+-- `solve::solve` meets its contract: one case for each of its three ends. Assumes nothing.
+use Prim.Native.Nat.{_*_}
+use mathlib.Core.Path.{_≡_, _∙_}
+use native.Mathlib.Omega.{arith}
+use borrow.Author.Needs.{needs}
+use Rattle.lists.specs.Lists.{image}
+use Rattle.solve.specs.Solve.{steepOf, solveOf}
+use Rattle.solve.proofs.Ends.{no-inverse, no-lambda, one-lambda, solve-back}
+use Rattle.solve.proofs.solve.Statement.{statement}
+use Rattle.solve.proofs.solve.Tie as tie
+
+-- the part with j0 in it, put for the part as it was lent
+back : (z : tie.After-steep) →
+    let a = z .before .before .before .before .args in
+    let n = a .w * a .h in
+    let xs = a .part .now in
+    let ys = z .steep .last .0 in
+    solveOf (a .marks .now) n (a .at) (image n 5 ys) (image n 0 ys) (image n 1 ys) (image n 3 ys) (image n 4 ys) (a .s) (a .rho)
+    ≡ solveOf (a .marks .now) n (a .at) (steepOf (a .w) (a .h) (a .at .theta) (image n 0 xs) (image n 1 xs)) (image n 0 xs) (image n 1 xs) (image n 3 xs) (image n 4 xs) (a .s) (a .rho)
+back z =
+    let g = z .before .before .before .before in
+    let a = g .args in
+    solve-back _ _ _ _ (a .w) (a .h) (a .at .theta) _ _ (a .part .now) (z .steep .last .0) (z .steep .ensures) (g .pre .4)
+
+mul-n : tie.Need-mul-n
+mul-n c = search needs
+
+steep-requires : tie.Need-steep-requires
+steep-requires c κs = search needs
+
+project-requires : tie.Need-project-requires
+project-requires c κs = omega (arith, c .before .before .before .steep .kept .0)
+
+try-inverse-requires : tie.Need-try-inverse-requires
+try-inverse-requires c κs = search needs
+
+enum-known-h-inv : tie.Need-enum-known-h-inv
+enum-known-h-inv c = search needs
+
+enum-told : tie.Need-enum-told
+enum-told c = search needs
+
+same-length : tie.Need-same-length
+same-length c = search needs
+
+returns : tie.Need-returns
+returns c =
+    let j = c .before .before in
+    let b = j .before in
+    let z = b .before .before .before .before in
+    (z .steep .ensures, no-inverse _ _ _ _ _ _ _ _ _ _ (b .project .result .h) (b .project .ensures .0) _ (j .try-inverse .ensures) (c .enum-told .given .1) ∙ back z)
+
+lambda-of-requires : tie.Need-lambda-of-requires
+lambda-of-requires c κs = search needs
+
+enum-known-lambda : tie.Need-enum-known-lambda
+enum-known-lambda c = search needs
+
+enum-told-2 : tie.Need-enum-told-2
+enum-told-2 c = search needs
+
+same-length-2 : tie.Need-same-length-2
+same-length-2 c = search needs
+
+returns-2 : tie.Need-returns-2
+returns-2 c =
+    let l = c .before .before in
+    let i = l .before .before in
+    let j = i .before .before in
+    let b = j .before in
+    let z = b .before .before .before .before in (
+      z .steep .ensures,
+      no-lambda _ _ _ _ _ _ _ _ _ _ (b .project .result .h) (b .project .ensures .0) _ _ (j .try-inverse .ensures) (i .h-inv .given .1) _ _ (b .project .ensures .1 .0) (b .project .ensures .1 .1) _ (l .lambda-of .ensures) (c .enum-told2 .given .1) ∙ back z,
+    )
+
+errors-requires : tie.Need-errors-requires
+errors-requires c κs =
+    let z = c .before .before .before .before .before .before .before .before .before .before .before .before .before in
+    let g = z .before .before .before .before in
+    omega (arith, z .steep .kept .0, g .pre)
+
+times-requires : tie.Need-times-requires
+times-requires c κs = search needs
+
+moved-requires : tie.Need-moved-requires
+moved-requires c κs = search needs
+
+same-length-3 : tie.Need-same-length-3
+same-length-3 c = search needs
+
+returns-3 : tie.Need-returns-3
+returns-3 c =
+    let t = c .before in
+    let e = t .before in
+    let k = e .before .before .before in
+    let l = k .before .before in
+    let i = l .before .before in
+    let j = i .before .before in
+    let b = j .before in
+    let z = b .before .before .before .before in (
+      z .steep .ensures,
+      c .moved .ensures ∙ one-lambda _ _ _ _ _ _ _ _ _ _ (b .project .result .h) (b .project .ensures .0) _ _ (j .try-inverse .ensures) (i .h-inv .given .1) _ _ (b .project .ensures .1 .0) (b .project .ensures .1 .1) _ (l .lambda-of .ensures) _ (k .lambda .given .1) _ _ (e .errors .ensures) (t .times .ensures) ∙ back z,
+    )
+
+pub solve-spec : {M : Type 1} → statement M
+solve-spec =
+    tie.close
+    (tie.spec
+    mul-n
+    steep-requires
+    project-requires
+    try-inverse-requires
+    enum-known-h-inv
+    enum-told
+    same-length
+    returns
+    lambda-of-requires
+    enum-known-lambda
+    enum-told-2
+    same-length-2
+    returns-2
+    errors-requires
+    times-requires
+    moved-requires
+    same-length-3
+    returns-3)
