@@ -136,3 +136,8 @@ put-again {A} xs a l m e h =
     ∙ ap (λ (z : List A). z ++ (m ++ drop (a + length m) (put xs a l))) t
     ∙ ap (λ (z : List A). take a xs ++ (m ++ z)) d
     ∙ sym (put-is xs a m)
+
+-- a run put at the front, taken again
+pub take-put-front : {A : Type 0} (xs l : List A) (n : ℕ) → length l ≡ n → take n (put xs 0 l) ≡ l
+unfolding put
+take-put-front xs l n e = take-at l _ n e

@@ -48,13 +48,12 @@ module _ {A : Type 0} (n : ℕ) (xs : List A) where
       let e = length-setAll ss (f .2) in
       image-set-other n k (s .0) (setAll n ss xs) (s .1) (f .0) (rw e (f .1)) (h .0) ∙ image-spared k ss (f .2) (h .1)
 
-  -- the image that was set last, and then one that was set before it
-  pub image-first : (s : ℕ × List A) (ss : Sets A) → Fits n (length xs) (s ∷ ss) → image n (s .0) (setAll n (s ∷ ss) xs) ≡ s .1
-  image-first s ss f = image-set n (s .0) (setAll n ss xs) (s .1) (f .0) (rw (length-setAll ss (f .2)) (f .1))
-
-  pub image-second : (s t : ℕ × List A) (ss : Sets A) → Fits n (length xs) (s ∷ (t ∷ ss)) → (t .0 ≡ s .0 → ⊥) → image n (t .0) (setAll n (s ∷ (t ∷ ss)) xs) ≡ t .1
-  image-second s t ss f h =
-      image-set-other n (t .0) (s .0) (setAll n (t ∷ ss) xs) (s .1) (f .0) (rw (length-setAll (t ∷ ss) (f .2)) (f .1)) h ∙ image-first t ss (f .2)
+  -- an image that was set, with ts set after it
+  pub image-later : (ts : Sets A) (s : ℕ × List A) (ss : Sets A) → Fits n (length xs) (ts ++ (s ∷ ss)) → Spared (s .0) ts → image n (s .0) (setAll n (ts ++ (s ∷ ss)) xs) ≡ s .1
+  image-later [] s ss f h = image-set n (s .0) (setAll n ss xs) (s .1) (f .0) (rw (length-setAll ss (f .2)) (f .1))
+  image-later (t ∷ ts) s ss f h =
+      image-set-other n (s .0) (t .0) (setAll n (ts ++ (s ∷ ss)) xs) (t .1) (f .0) (rw (length-setAll (ts ++ (s ∷ ss)) (f .2)) (f .1)) (h .0)
+      ∙ image-later ts s ss (f .2) (h .1)
 
   pub drop-setAll : (m : ℕ) (ss : Sets A) → Fits n (length xs) ss → Under m ss → drop (m * n) (setAll n ss xs) ≡ drop (m * n) xs
   drop-setAll m [] f h = refl

@@ -1,0 +1,6 @@
+pub mod Sizes
+pub mod Parts
+pub mod Stays
+pub mod Work
+pub mod Front
+pub mod Ends

@@ -1,0 +1,128 @@
+// One pass over the work slice: warp, statistics, the tests in document 01's order, and the update.
+//
+// The work slice holds twelve images; a pass reads images 2, 3, 4 (the prepared input and its gradients) and 8 (the prepared template) and
+// leaves them as they are. Images 5 to 7 get the warped ones, 9 and 10 the centred ones, 11 j0.
+ghost use mathlib.Core.Path.{_≡_};
+ghost use Prim.Native.Nat.{_*_, _≤_};
+ghost use lib.ListN.{length};
+ghost use Rattle.lists.specs.Lists.{put, image, setImage};
+ghost use Rattle.marks.specs.Marks.{countOn};
+ghost use Rattle.floats.specs.Bound.{Within};
+ghost use Rattle.warp.specs.Warp.{marksOf, warpOf};
+ghost use Rattle.stats.specs.Stats.{centredOf, statsOf};
+ghost use Rattle.solve.specs.Solve.{steepOf, solveOf};
+ghost use Rattle.pass.specs.Pass.{passOf, stops, weighedOf};
+ghost use Rattle.pass.specs.Kept.{Kept, KeptMarks};
+use solve::Step;
+
+// The warp within the work: images 2 to 4 into 5 to 7.
+fn warp_work(
+    work: &mut [f32],
+    marks: &mut [u8],
+    map: pose::Map,
+    w: usize,
+    h: usize,
+    spots: &mut [u32],
+    across: &mut [f32],
+    down: &mut [f32],
+) -> usize
+    requires { ⌜ (1 ≤ w) × (w ≤ 4096) × (1 ≤ h) × (h ≤ 4096) × (12 * (w * h) ≤ length (now work)) × (w * h ≤ length (now marks)) × (w ≤ length (now spots)) × (w ≤ length (now across)) × (w ≤ length (now down)) ⌝ }
+    ensures { λ r. ⌜ (let n = w * h in let xs = now (work .entry) in now (work .exit) ≡ setImage n 7 (warpOf (image n 4 xs) map w h) (setImage n 6 (warpOf (image n 3 xs) map w h) (setImage n 5 (warpOf (image n 2 xs) map w h) xs))) ⌝ }
+    ensures { λ r. ⌜ (now (marks .exit) ≡ put (now (marks .entry)) 0 (marksOf map w h)) × (r ≡ countOn (marksOf map w h) (w * h)) ⌝ }
+{
+    let n = w * h;
+    warp::warp_three_inverse_map(&mut work[2 * n..], marks, map, w, h, spots, across, down)
+}
+
+// The centred images within the work: of 8 and 5 into 9 and 10.
+fn centre_work(work: &mut [f32], marks: &[u8], n: usize, found: usize) -> stats::Stats
+    requires { ⌜ (n ≤ 16777216) × (found ≡ countOn (now marks) n) × (12 * n ≤ length (now work)) × (n ≤ length (now marks)) ⌝ }
+    ensures { λ r. ⌜ (let ms = now (marks .entry) in let xs = now (work .entry) in now (work .exit) ≡ setImage n 10 (centredOf ms n (image n 5 xs)) (setImage n 9 (centredOf ms n (image n 8 xs)) xs)) ⌝ }
+    ensures { λ r. ⌜ (let ms = now (marks .entry) in let xs = now (work .entry) in r ≡ statsOf ms n (centredOf ms n (image n 8 xs)) (centredOf ms n (image n 5 xs))) ⌝ }
+{
+    stats::centered_stats_in_place(&mut work[5 * n..], marks, n, found)
+}
+
+// The second half of a pass within the work: j0 into 11.
+fn solve_work(
+    work: &mut [f32],
+    marks: &[u8],
+    w: usize,
+    h: usize,
+    at: pose::Pose,
+    s: stats::Stats,
+    rho: f32,
+) -> Step
+    requires { ⌜ (1 ≤ w) × (w ≤ 4096) × (1 ≤ h) × (h ≤ 4096) × (12 * (w * h) ≤ length (now work)) × (w * h ≤ length (now marks)) × Within (at .theta) 2 1 ⌝ }
+    ensures { λ r. ⌜ (let n = w * h in let xs = now (work .entry) in now (work .exit) ≡ setImage n 11 (steepOf w h (at .theta) (image n 6 xs) (image n 7 xs)) xs) ⌝ }
+    ensures { λ r. ⌜ (let n = w * h in let xs = now (work .entry) in r ≡ solveOf (now (marks .entry)) n at (steepOf w h (at .theta) (image n 6 xs) (image n 7 xs)) (image n 6 xs) (image n 7 xs) (image n 9 xs) (image n 10 xs) s rho) ⌝ }
+{
+    let n = w * h;
+    solve::solve(&mut work[6 * n..], marks, w, h, at, s, rho)
+}
+
+// Whether the correlation has settled.
+fn settled(rho: f32, last: f32, eps: f32) -> bool
+    ensures { λ r. ⌜ r ≡ stops rho last eps ⌝ }
+{
+    numbers::is_finite(last) && numbers::abs(rho - last) < eps
+}
+
+// A pass after its warp: centring, the tests 6 and 7, the stop, the second half. `marks` are the pass's marks and no more.
+fn weigh(
+    work: &mut [f32],
+    marks: &[u8],
+    w: usize,
+    h: usize,
+    eps: f32,
+    at: pose::Pose,
+    last: f32,
+    found: usize,
+) -> Step
+    requires { ⌜ (1 ≤ w) × (w ≤ 4096) × (1 ≤ h) × (h ≤ 4096) × (12 * (w * h) ≤ length (now work)) × (w * h ≤ length (now marks)) × (found ≡ countOn (now marks) (w * h)) × Within (at .theta) 2 1 ⌝ }
+    ensures { λ r. ⌜ (let n = w * h in let xs = now (work .entry) in r ≡ weighedOf (now (marks .entry)) (image n 8 xs) (image n 5 xs) (image n 6 xs) (image n 7 xs) w h eps at last) ⌝ }
+    ensures { λ r. ⌜ Kept (w * h) (now (work .entry)) (now (work .exit)) ⌝ }
+{
+    let n = w * h;
+    let s = centre_work(work, marks, n, found);
+    if s.tmp_norm <= 0.000001 {
+        return Step::Refuse(6);
+    }
+    if s.img_norm <= 0.000001 {
+        return Step::Refuse(6);
+    }
+    let rho = s.corr / (s.img_norm * s.tmp_norm);
+    if !numbers::is_finite(rho) {
+        return Step::Refuse(7);
+    }
+    if settled(rho, last, eps) {
+        return Step::Stop(rho);
+    }
+    solve_work(work, marks, w, h, at, s, rho)
+}
+
+// The three scratch slices hold a row's places between two loops of the warp.
+pub fn pass(
+    work: &mut [f32],
+    marks: &mut [u8],
+    w: usize,
+    h: usize,
+    eps: f32,
+    at: pose::Pose,
+    last: f32,
+    spots: &mut [u32],
+    across: &mut [f32],
+    down: &mut [f32],
+) -> Step
+    requires { ⌜ (1 ≤ w) × (w ≤ 4096) × (1 ≤ h) × (h ≤ 4096) × (12 * (w * h) ≤ length (now work)) × (w * h ≤ length (now marks)) × (w ≤ length (now spots)) × (w ≤ length (now across)) × (w ≤ length (now down)) × Within (at .theta) 2 1 ⌝ }
+    ensures { λ r. ⌜ r ≡ passOf (image (w * h) 8 (now (work .entry))) (image (w * h) 2 (now (work .entry))) (image (w * h) 3 (now (work .entry))) (image (w * h) 4 (now (work .entry))) w h eps at last ⌝ }
+    ensures { λ r. ⌜ Kept (w * h) (now (work .entry)) (now (work .exit)) × KeptMarks (w * h) (now (marks .entry)) (now (marks .exit)) ⌝ }
+{
+    let n = w * h;
+    let map = pose::affine_from_theta_tx_ty(at);
+    let found = warp_work(work, marks, map, w, h, spots, across, down);
+    if found < 16 {
+        return Step::Refuse(5);
+    }
+    weigh(work, &marks[..n], w, h, eps, at, last, found)
+}
