@@ -1,0 +1,84 @@
+// The passes of a call: pass after pass, until one of them ends it or max_iter of them are done.
+//
+// The work holds both frames made ready; it and the marks come back with what the passes left there, and what lies past the twelve
+// images and past the n marks as it was.
+ghost use mathlib.Core.Path.{_≡_};
+ghost use Prim.Native.Nat.{_*_, _≤_};
+ghost use lib.ListN.{length};
+ghost use Rattle.lists.specs.Lists.{image};
+ghost use Rattle.pass.specs.Pass.{passOf};
+ghost use Rattle.pass.specs.Kept.{Kept, KeptMarks};
+ghost use Rattle.runs.specs.Runs.{after, posed, outcomeOf};
+use pose::Answer;
+use pose::Outcome;
+use pose::Pose;
+use solve::Step;
+
+// The pose in original pixels, by the factors tw / w and th / h; 10 where its shift is not finite then.
+fn unscaled(at: Pose, rho: f32, sx: f32, sy: f32) -> Answer
+    ensures { λ r. ⌜ r ≡ posed sx sy at rho ⌝ }
+{
+    let tx = at.tx / sx;
+    let ty = at.ty / sy;
+    if !numbers::is_finite(tx) {
+        return Answer::Refused(10);
+    }
+    if !numbers::is_finite(ty) {
+        return Answer::Refused(10);
+    }
+    Answer::Posed {
+        theta: at.theta,
+        tx,
+        ty,
+        rho,
+    }
+}
+
+// The three scratch slices hold a row's places between two loops of the warp.
+pub fn run(
+    work: &mut [f32],
+    marks: &mut [u8],
+    w: usize,
+    h: usize,
+    eps: f32,
+    max_iter: usize,
+    sx: f32,
+    sy: f32,
+    spots: &mut [u32],
+    across: &mut [f32],
+    down: &mut [f32],
+) -> Outcome
+    requires { ⌜ (1 ≤ w) × (w ≤ 4096) × (1 ≤ h) × (h ≤ 4096) × (12 * (w * h) ≤ length (now work)) × (w * h ≤ length (now marks)) × (w ≤ length (now spots)) × (w ≤ length (now across)) × (w ≤ length (now down)) × («max_iter» ≤ 1000) ⌝ }
+    ensures { λ r. ⌜ (let n = w * h in let xs = now (work .entry) in r ≡ outcomeOf sx sy (after (passOf (image n 8 xs) (image n 2 xs) (image n 3 xs) (image n 4 xs) w h eps) «max_iter»)) ⌝ }
+    ensures { λ r. ⌜ Kept (w * h) (now (work .entry)) (now (work .exit)) × KeptMarks (w * h) (now (marks .entry)) (now (marks .exit)) ⌝ }
+{
+    let mut at = Pose {
+        theta: 0.0,
+        tx: 0.0,
+        ty: 0.0,
+    };
+    let mut rho = -1.0f32;
+    let mut last = -1.0f32 / 0.0;
+    let mut k = 0usize;
+    let answer = loop {
+        if k == max_iter {
+            break unscaled(at, rho, sx, sy);
+        }
+        let step = pass::pass(work, marks, w, h, eps, at, last, spots, across, down);
+        k += 1;
+        match step {
+            Step::Refuse(n) => {
+                break Answer::Refused(n);
+            }
+            Step::Stop(r) => {
+                break unscaled(at, r, sx, sy);
+            }
+            Step::Move(p, r) => {
+                at = p;
+                rho = r;
+                last = r;
+            }
+        }
+    };
+    Outcome { passes: k, answer }
+}
