@@ -5,10 +5,10 @@ use Prim.Native.Nat.{ℕ, _-_, _*_, _≤_}
 use native.Mathlib.Nat.{one-mul, mul-comm}
 use native.Mathlib.Omega.{arith}
 use lib.ListN.{length, take, drop}
-use lib.Seq.{take-at}
 use lib.Ieee.{Float}
 use Rattle.lists.specs.Lists.{put, image, setImage}
 use Rattle.lists.proofs.Grow.{length-grid}
+use Rattle.lists.proofs.Put.{take-put-front}
 use Rattle.lists.proofs.Images.{image-set, length-setImage, step-back}
 use Rattle.blur.specs.declared.Along.{Along}
 use Rattle.blur.specs.declared.Along.the-variants.{Rows, Columns}
@@ -31,8 +31,7 @@ length-pass along ks ksize w h src = length-grid w h _ ∙ mul-comm h w
 
 -- the front of an array that the kernel was put in
 pub front-is : (ksize : ℕ) (xs ys : List Float) → ys ≡ put xs 0 (kernelOf ksize) → take ksize ys ≡ kernelOf ksize
-unfolding put
-front-is ksize xs ys e = ap (take ksize) e ∙ take-at (kernelOf ksize) _ ksize (length-kernel ksize)
+front-is ksize xs ys e = ap (take ksize) e ∙ take-put-front xs (kernelOf ksize) ksize (length-kernel ksize)
 
 -- a step that was lent all from the second image on, and made its second image of its first
 second : (D : List Float → List Float) (n : ℕ) (ys zs : List Float) → ((l : List Float) → length (D l) ≡ n) → 3 * n ≤ length ys →

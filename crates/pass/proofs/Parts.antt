@@ -16,7 +16,8 @@ use Rattle.stats.specs.Stats.{centredOf, statsOf}
 use Rattle.stats.specs.declared.Stats.{Stats}
 use Rattle.solve.specs.Solve.{steepOf, solveOf}
 use Rattle.solve.specs.declared.Step.{Step}
-use Rattle.pass.proofs.Sizes.{length-warp, length-centred, length-steep}
+use Rattle.solve.proofs.Ends.{length-steep}
+use Rattle.pass.proofs.Sizes.{length-warp, length-centred}
 
 module _ (n j : ℕ) (xs : List Float) where
   abbrev size : ℕ

@@ -9,7 +9,6 @@ use Rattle.lists.proofs.Grow.{length-tab, length-grid}
 use Rattle.pose.specs.declared.Map.{Map}
 use Rattle.warp.specs.Warp.{marksOf, warpOf}
 use Rattle.stats.specs.Stats.{centredOf}
-use Rattle.solve.specs.Solve.{steepOf}
 
 pub length-warp : (src : List Float) (map : Map) (w h : ℕ) → length (warpOf src map w h) ≡ w * h
 unfolding warpOf
@@ -22,7 +21,3 @@ length-marks map w h = length-grid w h _ ∙ mul-comm h w
 pub length-centred : (ms : List ℕ) (n : ℕ) (xs : List Float) → length (centredOf ms n xs) ≡ n
 unfolding centredOf
 length-centred ms n xs = length-tab n _
-
-pub length-steep : (w h : ℕ) (theta : Float) (gx gy : List Float) → length (steepOf w h theta gx gy) ≡ w * h
-unfolding steepOf
-length-steep w h theta gx gy = length-grid w h _ ∙ mul-comm h w

@@ -16,7 +16,8 @@ use Rattle.solve.specs.Solve.{steepOf, solveOf}
 use Rattle.solve.specs.declared.Step.{Step}
 use Rattle.pass.specs.Pass.{weighedOf}
 use Rattle.pass.specs.Kept.{Kept}
-use Rattle.pass.proofs.Sizes.{length-warp, length-centred, length-steep}
+use Rattle.solve.proofs.Ends.{length-steep}
+use Rattle.pass.proofs.Sizes.{length-warp, length-centred}
 use Rattle.pass.proofs.Stays.{kept-sets, kept-kept}
 
 -- ---- after the warp

@@ -109,16 +109,16 @@ module _ (ms : List ℕ) (n : ℕ) (p : Pose) (j0 j1 j2 tz iz : List Float) (s :
       one-lambda l k ep delta ee ed = ap (λ (d : Vector3). movedOf p d rho) (ed ∙ ap (timesOf h) ee) ∙ sym (ap (answer to-move) k) ∙ by-lambda
 
 -- ---- the part with j0 in its image 5
-module _ (ms : List ℕ) (p : Pose) (s : Stats) (rho : Float) (w h : ℕ) (theta : Float) (gx gy xs ys : List Float) (is-ys : ys ≡ setImage (w * h) 5 (steepOf w h theta gx gy) xs) (fits : 6 * (w * h) ≤ length xs) where
-  length-steep : length (steepOf w h theta gx gy) ≡ w * h
-  unfolding steepOf
-  length-steep = length-grid w h _ ∙ mul-comm h w
+pub length-steep : (w h : ℕ) (theta : Float) (gx gy : List Float) → length (steepOf w h theta gx gy) ≡ w * h
+unfolding steepOf
+length-steep w h theta gx gy = length-grid w h _ ∙ mul-comm h w
 
+module _ (ms : List ℕ) (p : Pose) (s : Stats) (rho : Float) (w h : ℕ) (theta : Float) (gx gy xs ys : List Float) (is-ys : ys ≡ setImage (w * h) 5 (steepOf w h theta gx gy) xs) (fits : 6 * (w * h) ≤ length xs) where
   j0-there : image (w * h) 5 ys ≡ steepOf w h theta gx gy
-  j0-there = ap (image (w * h) 5) is-ys ∙ image-set (w * h) 5 xs _ length-steep (omega arith)
+  j0-there = ap (image (w * h) 5) is-ys ∙ image-set (w * h) 5 xs _ (length-steep w h theta gx gy) (omega arith)
 
   image-kept : (k : ℕ) → (k ≡ 5 → ⊥) → image (w * h) k ys ≡ image (w * h) k xs
-  image-kept k d = ap (image (w * h) k) is-ys ∙ image-set-other (w * h) k 5 xs _ length-steep (omega arith) d
+  image-kept k d = ap (image (w * h) k) is-ys ∙ image-set-other (w * h) k 5 xs _ (length-steep w h theta gx gy) (omega arith) d
 
   pub solve-back : solveOf ms (w * h) p (image (w * h) 5 ys) (image (w * h) 0 ys) (image (w * h) 1 ys) (image (w * h) 3 ys) (image (w * h) 4 ys) s rho
       ≡ solveOf ms (w * h) p (steepOf w h theta gx gy) (image (w * h) 0 xs) (image (w * h) 1 xs) (image (w * h) 3 xs) (image (w * h) 4 xs) s rho
