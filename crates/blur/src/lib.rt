@@ -80,18 +80,6 @@ pub fn gaussian_kernel(ksize: usize, k: &mut [f32])
     divide(ksize, sum, k);
 }
 
-// The `len` numbers from `dst` on become +0.
-fn clear(part: &mut [f32], dst: usize, len: usize)
-    requires { ⌜ dst + len ≤ length (now part) ⌝ }
-    ensures { λ _. ⌜ now (part .exit) ≡ put (now (part .entry)) dst (tab len (λ _. 0f)) ⌝ }
-{
-    let mut i = 0;
-    while i < len {
-        part[dst + i] = 0.0;
-        i += 1;
-    }
-}
-
 // To each of the `len` numbers from `dst` on, the one as far behind `src` times the weight is added.
 fn add_run(part: &mut [f32], dst: usize, src: usize, len: usize, weight: f32)
     requires { ⌜ (src + len ≤ dst) × (dst + len ≤ length (now part)) ⌝ }
@@ -199,7 +187,7 @@ fn blur_row(along: Along, part: &mut [f32], ks: &[f32], w: usize, h: usize, ksiz
     ensures { λ _. ⌜ now (part .exit) ≡ put (now (part .entry)) (w * h + y * w) (tab w (λ x. tapsOf along (now (ks .entry)) ksize w h (take (w * h) (now (part .entry))) ksize x y)) ⌝ }
 {
     let dst = w * h + y * w;
-    clear(part, dst, w);
+    zeros::fill_floats(part, dst, w);
     let mut k = 0;
     while k < ksize {
         add_tap(along, part, dst, w, h, ksize, y, k, ks[k]);

@@ -89,6 +89,10 @@ unfolding put
 front-is xs n v = rw (tab-const n v, length-replicate, zero-add)
 
 -- one store begins a run
+-- a front filled over: what stood there before does not matter
+pub front-over : {A : Type 0} (xs ys : List A) (n : ℕ) (v : A) → drop n xs ≡ drop n ys → put xs 0 (tab n (λ _. v)) ≡ put ys 0 (tab n (λ _. v))
+front-over xs ys n v e = front-is xs n v ∙ ap (_++_ (replicate n v)) e ∙ sym (front-is ys n v)
+
 pub fill-one : {A : Type 0} (xs : List A) (a : ℕ) (f : ℕ → A) (v : A) → a < length xs → v ≡ f 0 → set xs a v ≡ put xs a (tab 1 f)
 fill-one {A} xs a f v h e =
     ap (λ (z : List A). set z a v) (fill-none xs a f)

@@ -27,15 +27,15 @@ mul-dst-2 c = search needs
 add-dst : tie.Need-add-dst Inv-loop μ-loop
 add-dst c = search needs
 
-clear-requires : tie.Need-clear-requires Inv-loop μ-loop
-clear-requires c κs = search needs
+fill-floats-requires : tie.Need-fill-floats-requires Inv-loop μ-loop
+fill-floats-requires c κs = search needs
 
 loop-holds : tie.Need-loop-holds Inv-loop μ-loop
 loop-holds c =
     let cleared = c .before .before in
     let s = cleared .before .before .before .before in
     let a = s .args in
-    (taps-none (a .along) (now (a .ks)) (a .ksize) (a .w) (a .h) (a .y) (now (a .part)) (a .w * a .h + a .y * a .w) (omega arith) (s .pre .6) _ (cleared .clear .ensures), search needs, refl)
+    (taps-none (a .along) (now (a .ks)) (a .ksize) (a .w) (a .h) (a .y) (now (a .part)) (a .w * a .h + a .y * a .w) (omega arith) (s .pre .6) _ (cleared .fill-floats .ensures), search needs, refl)
 
 mul-add-tap : tie.Need-mul-add-tap Inv-loop μ-loop
 mul-add-tap c = search needs
@@ -44,7 +44,7 @@ shared-slice-read-add-tap : tie.Need-shared-slice-read-add-tap Inv-loop μ-loop
 shared-slice-read-add-tap c = search needs
 
 add-tap-requires : tie.Need-add-tap-requires Inv-loop μ-loop
-add-tap-requires c κs = let begun = c .before .before .before .before in omega (arith, begun .before .before .clear .kept .0, begun .before .before .before .before .before .before .pre)
+add-tap-requires c κs = let begun = c .before .before .before .before in omega (arith, begun .before .before .fill-floats .kept .0, begun .before .before .before .before .before .before .pre)
 
 add-k : tie.Need-add-k Inv-loop μ-loop
 add-k c = search needs
@@ -61,8 +61,8 @@ loop-again c =
     let a = s .args in
     let k = l .loop .k in
     let dst = a .w * a .h + a .y * a .w in
-    let ps = cleared .clear .last .0 in
-    let size = cleared .clear .kept .0 in (
+    let ps = cleared .fill-floats .last .0 in
+    let size = cleared .fill-floats .kept .0 in (
       tap .add-tap .ensures
           ∙ ap (λ (z : List Float). addedOf z dst (a .w) (λ x. spotOf (a .along) (a .ksize) (a .w) (a .h) x (a .y) k) (getD (now (a .ks)) k nan)) (l .loop .inv .0)
           ∙ taps-more (a .along) (now (a .ks)) (a .ksize) (a .w) (a .h) (a .y) ps dst (omega arith) (omega (arith, s .pre .6)) (s .pre .2) k,
@@ -81,8 +81,8 @@ returns c =
     let a = s .args in
     let end : l .loop .k ≡ a .ksize = omega arith in
     l .loop .inv .0
-    ∙ ap (row (a .along) (now (a .ks)) (a .ksize) (a .w) (a .h) (a .y) (a .w * a .h + a .y * a .w) (cleared .clear .last .0)) end
-    ∙ taps-end (a .along) (now (a .ks)) (a .ksize) (a .w) (a .h) (a .y) (now (a .part)) (a .w * a .h + a .y * a .w) (omega arith) (s .pre .6) _ (cleared .clear .ensures) (a .ksize)
+    ∙ ap (row (a .along) (now (a .ks)) (a .ksize) (a .w) (a .h) (a .y) (a .w * a .h + a .y * a .w) (cleared .fill-floats .last .0)) end
+    ∙ taps-end (a .along) (now (a .ks)) (a .ksize) (a .w) (a .h) (a .y) (now (a .part)) (a .w * a .h + a .y * a .w) (omega arith) (s .pre .6) _ (cleared .fill-floats .ensures) (a .ksize)
 
 pub blur-row-spec : {M : Type 1} → statement M
 blur-row-spec =
@@ -93,7 +93,7 @@ blur-row-spec =
     mul-dst
     mul-dst-2
     add-dst
-    clear-requires
+    fill-floats-requires
     loop-holds
     mul-add-tap
     shared-slice-read-add-tap

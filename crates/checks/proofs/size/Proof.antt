@@ -1,12 +1,8 @@
 -- `checks::size` meets its contract. Assumes nothing.
-use mathlib.Core.Path.{ap, _∙_}
-use Prim.Native.Nat.{ℕ, _*_}
 use native.Mathlib.Nat.{mul-le-mul}
 use borrow.Author.Needs.{needs}
 use Rattle.lists.proofs.Every.{sides-fit}
-use Rattle.settings.specs.Sides.{resizedOf}
-use Rattle.settings.specs.declared.Sides.{Sides}
-use Rattle.checks.specs.Checks.{sizeOf}
+use Rattle.checks.proofs.Past.{size-is}
 use Rattle.checks.proofs.size.Statement.{statement}
 use Rattle.checks.proofs.size.Tie as tie
 
@@ -22,12 +18,11 @@ mul-result c =
     sides-fit _ _ (e .2) (e .4)
 
 returns : tie.Need-returns
-unfolding sizeOf
 returns c =
     let r = c .before in
     let e = r .resized .ensures in
     let a = r .before .before .args in
-    (ap (λ (s : Sides). s .w * s .h) (e .0 ∙ ap (λ (k : ℕ). resizedOf k (a .w) (a .h)) (r .before .edge .ensures)), mul-le-mul (e .2) (e .4))
+    (size-is _ (a .w) (a .h) _ _ (e .0) (r .before .edge .ensures), mul-le-mul (e .2) (e .4))
 
 pub size-spec : {M : Type 1} → statement M
 size-spec = tie.close (tie.spec edge-requires resized-requires mul-result returns)

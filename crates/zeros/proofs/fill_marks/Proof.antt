@@ -1,4 +1,4 @@
--- `blur::clear` meets its contract. The loop's invariant: the first i numbers are +0. The measure is what is left of them. Assumes nothing.
+-- `zeros::fill_marks` meets its contract. The loop's invariant: the first i marks are 0. The measure is what is left of them. Assumes nothing.
 use mathlib.Core.Path.{_≡_, refl}
 use Prim.Native.Nat.{_-_, _≤_}
 use native.Mathlib.Omega.{arith}
@@ -6,28 +6,21 @@ use borrow.Author.Needs.{needs}
 use denote.Ref.{now}
 use lib.ListN.{length, length-set}
 use Rattle.lists.specs.Lists.{tab, put}
-use Rattle.lists.proofs.Fill.{fill-none, fill-more}
-use Rattle.floats.specs.F32.{0f}
-use Rattle.blur.proofs.clear.Statement.{statement}
-use Rattle.blur.proofs.clear.Tie as tie
+use Rattle.lists.proofs.Fill.{fill-none, front-more}
+use Rattle.zeros.proofs.fill_marks.Statement.{statement}
+use Rattle.zeros.proofs.fill_marks.Tie as tie
 
 abbrev Inv-loop : tie.InvT-loop
-Inv-loop part₀ dst len i₀ part i = (i ≤ len) × (length part ≡ length part₀) × (part ≡ put part₀ dst (tab i (λ _. 0f)))
+Inv-loop marks₀ len i₀ marks i = (i ≤ len) × (length marks ≡ length marks₀) × (marks ≡ put marks₀ 0 (tab i (λ _. 0)))
 
 abbrev μ-loop : tie.MeasureT-loop
-μ-loop part₀ dst len i₀ part i = len - i
+μ-loop marks₀ len i₀ marks i = len - i
 
 loop-holds : tie.Need-loop-holds Inv-loop μ-loop
 loop-holds c = (search needs, refl, fill-none _ _ _)
 
-add-part : tie.Need-add-part Inv-loop μ-loop
-add-part c = search needs
-
-mul-part : tie.Need-mul-part Inv-loop μ-loop
-mul-part c = search needs
-
-slice-write-part : tie.Need-slice-write-part Inv-loop μ-loop
-slice-write-part c = search needs
+slice-write-marks : tie.Need-slice-write-marks Inv-loop μ-loop
+slice-write-marks c = search needs
 
 add-i : tie.Need-add-i Inv-loop μ-loop
 add-i c = search needs
@@ -39,7 +32,7 @@ loop-again : tie.Need-loop-again Inv-loop μ-loop
 loop-again c =
     let l = c .before in
     let a = l .before .args in
-    (omega arith, simp length-set (l .loop .inv .1), rw (l .loop .inv .2) (fill-more (now (a .part)) (a .dst) (λ _. 0f) (l .loop .i) _ (omega arith) refl))
+    (omega arith, simp length-set (l .loop .inv .1), rw (l .loop .inv .2) (front-more (now (a .marks)) (λ _. 0) (l .loop .i) _ (omega arith) refl))
 
 same-length : tie.Need-same-length Inv-loop μ-loop
 same-length c = search needs
@@ -49,16 +42,14 @@ returns c =
     let end : c .before .loop .i ≡ c .before .before .args .len = omega arith in
     rw end at (c .before .loop .inv .2)
 
-pub clear-spec : {M : Type 1} → statement M
-clear-spec =
+pub fill-marks-spec : {M : Type 1} → statement M
+fill-marks-spec =
     tie.close
     (tie.spec
     Inv-loop
     μ-loop
     loop-holds
-    add-part
-    mul-part
-    slice-write-part
+    slice-write-marks
     add-i
     loop-less
     loop-again

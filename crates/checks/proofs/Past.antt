@@ -1,0 +1,73 @@
+-- What holds past the checks: sides, lengths, settings and room are in order; and the number of pixels. Assumes nothing.
+use Prim.Native.Nat.{ℕ, _*_, _%_, _≤_}
+use mathlib.Core.Path.{_≡_, refl, ap, _∙_}
+use mathlib.Core.Bool.{Bool, true, false}
+use native.Mathlib.Omega.{arith}
+use lib.Dec.{ltb, eqb, lit≤}
+use borrow.Author.Tests.{ltb-false, eqb-true, eqb-false}
+use Rattle.lists.specs.Marked.{pick}
+use Rattle.settings.specs.Settings.{edgeOf}
+use Rattle.settings.specs.Sides.{resizedOf}
+use Rattle.settings.specs.declared.EccConfig.{EccConfig}
+use Rattle.settings.specs.declared.Sides.{Sides}
+use Rattle.checks.specs.Checks.{sizeOf, roomOf, settledOf, checkOf}
+
+-- a test that gives a number above 0 did not do so, and the rest gave 0
+passed-by : (b : Bool) (v x : ℕ) → 1 ≤ v → pick b v x ≡ 0 → (b ≡ false) × (x ≡ 0)
+unfolding pick
+passed-by true v x h e = absurd (omega (arith, h, e))
+passed-by false v x h e = (refl, e)
+
+passed-on : (b : Bool) (x : ℕ) → pick b x 1 ≡ 0 → (b ≡ true) × (x ≡ 0)
+unfolding pick
+passed-on true x e = (refl, e)
+passed-on false x e = absurd (omega (arith, e))
+
+pub record Past (t i w h : ℕ) (cfg : EccConfig) (k m : ℕ) : Type 0 where
+  pub width-some : 1 ≤ w
+  pub width-most : w ≤ 4096
+  pub height-some : 1 ≤ h
+  pub height-most : h ≤ 4096
+  pub template-fits : t ≡ w * h
+  pub input-fits : i ≡ w * h
+  pub filter-odd : cfg .«gauss_filt_size» % 2 ≡ 1
+  pub filter-most : cfg .«gauss_filt_size» ≤ 31
+  pub passes-most : cfg .«max_iter» ≤ 1000
+  pub work-fits : 12 * sizeOf cfg w h ≤ k
+  pub marks-fit : sizeOf cfg w h ≤ m
+
+pub past : (t i w h : ℕ) (cfg : EccConfig) (k m : ℕ) → checkOf t i w h cfg k m ≡ 0 → Past t i w h cfg k m
+unfolding checkOf settledOf roomOf
+past t i w h cfg k m e =
+    let a = passed-by _ 2 _ (lit≤ tt) e in
+    let b = passed-by _ 2 _ (lit≤ tt) (a .1) in
+    let c = passed-by _ 1 _ (lit≤ tt) (b .1) in
+    let d = passed-by _ 1 _ (lit≤ tt) (c .1) in
+    let f = passed-on _ _ (d .1) in
+    let g = passed-on _ _ (f .1) in
+    let o = passed-by _ 1 _ (lit≤ tt) (g .1) in
+    let p = passed-by _ 3 _ (lit≤ tt) (o .1) in
+    let q = passed-by _ 3 _ (lit≤ tt) (p .1) in
+    let r = passed-by _ 4 _ (lit≤ tt) (q .1) in
+    let s = passed-by _ 4 _ (lit≤ tt) (r .1) in
+    let w0 = eqb-false w 0 (c .0) in
+    let h0 = eqb-false h 0 (d .0) in
+    let k0 = eqb-false (cfg .«gauss_filt_size» % 2) 0 (o .0) in
+    record {
+      width-some = omega (arith, w0);
+      width-most = ltb-false _ _ (a .0);
+      height-some = omega (arith, h0);
+      height-most = ltb-false _ _ (b .0);
+      template-fits = eqb-true _ _ (f .0);
+      input-fits = eqb-true _ _ (g .0);
+      filter-odd = omega (arith, k0);
+      filter-most = ltb-false _ _ (p .0);
+      passes-most = ltb-false _ _ (q .0);
+      work-fits = ltb-false _ _ (r .0);
+      marks-fit = ltb-false _ _ (s .0)
+    }
+
+-- the number of pixels, by the sides that were worked out
+pub size-is : (cfg : EccConfig) (w h edge : ℕ) (s : Sides) → s ≡ resizedOf edge w h → edge ≡ edgeOf cfg → s .w * s .h ≡ sizeOf cfg w h
+unfolding sizeOf
+size-is cfg w h edge s e f = ap (λ (s : Sides). s .w * s .h) (e ∙ ap (λ (k : ℕ). resizedOf k w h) f)
