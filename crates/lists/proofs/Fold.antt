@@ -14,11 +14,14 @@ pub pick-false : {A : Type 0} (b : Bool) (x y : A) → b ≡ false → pick b x 
 unfolding pick
 pick-false {A} b x y e = ap (λ (c : Bool). pick c x y) e
 
--- what holds of both holds of the one that is picked
-pub pick-both : {A : Type 0} (P : A → Type 0) (b : Bool) (x y : A) → P x → P y → P (pick b x y)
+-- what holds of the first where the test passes, and of the second, holds of the one that is picked
+pub pick-where : {A : Type 0} (P : A → Type 0) (b : Bool) (x y : A) → (b ≡ true → P x) → P y → P (pick b x y)
 unfolding pick
-pick-both P true x y p q = p
-pick-both P false x y p q = q
+pick-where P true x y p q = p refl
+pick-where P false x y p q = q
+
+pub pick-both : {A : Type 0} (P : A → Type 0) (b : Bool) (x y : A) → P x → P y → P (pick b x y)
+pick-both P b x y p q = pick-where P b x y (λ e. p) q
 
 module _ {S : Type 0} (m : ℕ → Bool) (step : S → ℕ → S) (s : S) where
   pub over-none : overMarked m step s 0 ≡ s

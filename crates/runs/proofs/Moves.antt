@@ -1,14 +1,16 @@
--- A pass that moves on has a theta from -2 to 2: number 10 is tested before. Assumes nothing.
-use Prim.Native.Nat.{ℕ}
-use mathlib.Core.Path.{_≡_, refl, sym, _∙_, subst}
-use mathlib.Core.Bool.{Bool, true, false}
+-- How a pass ends: with a refusal from 5 to 10, a finite correlation, or a pose to go on with, whose theta is from -2 to 2. Assumes nothing.
+use Prim.Native.Nat.{ℕ, _≤_}
+use mathlib.Core.Path.{_≡_, sym, _∙_, subst}
+use mathlib.Core.Bool.{true, _&&_}
 use mathlib.Core.List.{List}
+use lib.Dec.{T, leb, leb→le}
 use lib.Ieee.{Float}
+use lib.Ieee.Fits.{and-l, and-r}
+use lib.Ieee.Scale.{finite}
 use Rattle.lists.specs.Lists.{image}
-use Rattle.lists.proofs.Fold.{pick-true, pick-false, pick-both}
+use Rattle.lists.proofs.Fold.{pick-where, pick-both}
 use Rattle.floats.specs.F32.{_⊕_}
 use Rattle.floats.specs.Bound.{Within}
-use Rattle.pose.specs.Pose.{isPose}
 use Rattle.pose.specs.declared.Pose.{Pose}
 use Rattle.pose.proofs.Tests.{pose-theta}
 use Rattle.inverse.specs.declared.Vector3.{Vector3}
@@ -21,54 +23,50 @@ use Rattle.stats.specs.declared.Stats.{Stats}
 use Rattle.pass.specs.Pass.{weighedOf, passOf}
 use Rattle.pass.specs.Kept.{Kept}
 
--- the next pose, if there is one, can be gone on with
-unfoldable pub Moves : Step → Type 0
-Moves (Refuse n) = Unit {0}
-Moves (Stop rho) = Unit {0}
-Moves (Move p rho) = Within (p .theta) 2 1
+-- a refusal is a number from 5 to 10, a correlation is finite, and the next pose can be gone on with
+unfoldable pub Sound : Step → Type 0
+Sound (Refuse n) = (5 ≤ n) × (n ≤ 10)
+Sound (Stop rho) = finite rho ≡ true
+Sound (Move p rho) = Within (p .theta) 2 1 × (finite rho ≡ true)
 
-module _ (p : Pose) (delta : Vector3) (rho : Float) where
-  abbrev theta : Float
-  theta = p .theta ⊕ delta .0
+-- each number that a pass refuses with
+refuses : (n : ℕ) → T (leb 5 n && leb n 10) → Sound (Refuse n)
+unfolding Sound
+refuses n t = (leb→le 5 n (and-l (leb 5 n) (leb n 10) t), leb→le n 10 (and-r (leb 5 n) (leb n 10) t))
 
-  abbrev tx : Float
-  tx = p .tx ⊕ delta .1
+module _ (p : Pose) (rho : Float) (f : finite rho ≡ true) where
+  moved-sound : (delta : Vector3) → Sound (movedOf p delta rho)
+  unfolding movedOf Sound
+  moved-sound delta = pick-where Sound _ _ _ (λ e. (pose-theta (p .theta ⊕ delta .0) (p .tx ⊕ delta .1) (p .ty ⊕ delta .2) e, f)) (refuses 10 tt)
 
-  abbrev ty : Float
-  ty = p .ty ⊕ delta .2
+  module _ (marks : List ℕ) (n : ℕ) (j0 j1 j2 tz iz : List Float) (s : Stats) where
+    update-sound : (i : Inverse) → Sound (updateOf marks n p j0 j1 j2 tz iz s rho i)
+    unfolding updateOf
+    update-sound Missing = refuses 8 tt
+    update-sound (Exists h) =
+        pick-both Sound _ _ _ (refuses 9 tt)
+        (pick-both Sound _ _ _ (pick-both Sound _ _ _ (moved-sound _) (refuses 9 tt)) (refuses 9 tt))
 
-  moved-moves : Moves (movedOf p delta rho)
-  unfolding movedOf Moves
-  moved-moves = by (isPose theta tx ty) refl
-    where
-      by : (b : Bool) → isPose theta tx ty ≡ b → Moves (movedOf p delta rho)
-      by true e = subst Moves (sym (pick-true (isPose theta tx ty) _ _ e)) (pose-theta theta tx ty e)
-      by false e = subst Moves (sym (pick-false (isPose theta tx ty) _ _ e)) tt
-
-module _ (marks : List ℕ) (n : ℕ) (p : Pose) (j0 j1 j2 tz iz : List Float) (s : Stats) (rho : Float) where
-  update-moves : (i : Inverse) → Moves (updateOf marks n p j0 j1 j2 tz iz s rho i)
-  unfolding updateOf Moves
-  update-moves Missing = tt
-  update-moves (Exists h) = pick-both Moves _ _ _ tt (pick-both Moves _ _ _ (pick-both Moves _ _ _ (moved-moves p _ rho) tt) tt)
-
-  solve-moves : Moves (solveOf marks n p j0 j1 j2 tz iz s rho)
-  unfolding solveOf
-  solve-moves = update-moves _
+    solve-sound : Sound (solveOf marks n p j0 j1 j2 tz iz s rho)
+    unfolding solveOf
+    solve-sound = update-sound _
 
 module _ (w h : ℕ) (eps : Float) (p : Pose) (last : Float) where
-  weighed-moves : (marks : List ℕ) (template warped j1 j2 : List Float) → Moves (weighedOf marks template warped j1 j2 w h eps p last)
-  unfolding weighedOf Moves
-  weighed-moves marks template warped j1 j2 =
-      pick-both Moves _ _ _ tt (pick-both Moves _ _ _ tt (pick-both Moves _ _ _ (pick-both Moves _ _ _ tt (solve-moves _ _ _ _ _ _ _ _ _ _)) tt))
+  weighed-sound : (marks : List ℕ) (template warped j1 j2 : List Float) → Sound (weighedOf marks template warped j1 j2 w h eps p last)
+  unfolding weighedOf Sound
+  weighed-sound marks template warped j1 j2 =
+      pick-both Sound _ _ _ (refuses 6 tt)
+      (pick-both Sound _ _ _ (refuses 6 tt)
+      (pick-where Sound _ _ _ (λ f. pick-both Sound _ _ _ f (solve-sound p _ f _ _ _ _ _ _ _ _)) (refuses 7 tt)))
 
-  pass-moves : (template input gx gy : List Float) → Moves (passOf template input gx gy w h eps p last)
-  unfolding passOf Moves
-  pass-moves template input gx gy = pick-both Moves _ _ _ tt (weighed-moves _ _ _ _ _)
+  pub pass-sound : (template input gx gy : List Float) → Sound (passOf template input gx gy w h eps p last)
+  unfolding passOf
+  pass-sound template input gx gy = pick-both Sound _ _ _ (refuses 5 tt) (weighed-sound _ _ _ _ _)
 
-  -- THE LAW
+  -- where it moves on theta is from -2 to 2: number 10 is tested before
   pub move-within : (template input gx gy : List Float) (x : Step) → x ≡ passOf template input gx gy w h eps p last → (q : Pose) (r : Float) → x ≡ Move q r → Within (q .theta) 2 1
-  unfolding Moves
-  move-within template input gx gy x e q r g = subst Moves (sym e ∙ g) (pass-moves template input gx gy)
+  unfolding Sound
+  move-within template input gx gy x e q r g = (subst Sound (sym e ∙ g) (pass-sound template input gx gy)) .0
 
   -- a pass over the work that the passes before it left
   pub pass-kept : (n : ℕ) (xs ys : List Float) → Kept n xs ys →
