@@ -4,21 +4,38 @@ use lib.Ieee.{add, sub, sum, mul, div, neg, round, eq, lt, le, isNan, ofInt, ofB
 use Rattle.lists.specs.Lists.{grow, tab, grid}
 use Rattle.lists.specs.Marked.{pick, overMarked}
 use Rattle.marks.specs.Marks.{countOn}
-use Rattle.numbers.specs.Numbers.{floorOf, nearestOf, roundOf, maxOf}
+use Rattle.floats.specs.Sums.{sumOver}
+use Rattle.numbers.specs.Numbers.{floorOf, nearestOf, roundOf, maxOf, absOf}
 use Rattle.root.specs.Root.{sqrtOf}
 use Rattle.series.specs.Series.{cosOf, sinOf, expNegOf}
 use Rattle.settings.specs.Sides.{scaledOf, sideOf, resizedOf}
 use Rattle.resize.specs.Resize.{placeOf, firstOf, tapOf, byteOf, blendOf, sampleOf, resizeOf}
-use Rattle.gradients.specs.Gradients.{gradientX}
-use Rattle.pose.specs.Pose.{mapOf}
-use Rattle.warp.specs.Warp.{sxOf, syOf, inside, markedAt, marksOf}
+use Rattle.gradients.specs.Gradients.{gradientX, gradientY}
+use Rattle.pose.specs.Pose.{mapOf, isPose, identity, turnedOf, posedMatrix, matrixOf}
+use Rattle.warp.specs.Warp.{sxOf, syOf, inside, markedAt, marksOf, warpOf}
+use Rattle.warp.specs.Warp as warp
+use Rattle.checks.specs.Checks.{sizeOf, roomOf, settledOf, checkOf}
+use Rattle.blur.specs.Blur.{blurOf}
+use Rattle.prepare.specs.Prepared.{grayOf, preparedOf}
+use Rattle.prepare.specs.Prepared as prepare
+use Rattle.stats.specs.Stats.{meanOf, centredOf, productOf, statsOf}
+use Rattle.inverse.specs.Inverse.{overOf, inverseOf, dotOf, timesOf}
+use Rattle.solve.specs.Solve.{steepOf, projOf, hessianOf, errorOf, movedOf, updateOf, solveOf}
+use Rattle.pass.specs.Pass.{weighedOf, passOf}
+use Rattle.runs.specs.Runs.{start, landed, next, after, posed, outcomeOf}
+use Rattle.alignment.specs.Aligned.{passIn, runOf, alignedOf}
 use Rattle.cases.specs.Table.{Starred}
 
 pub starred : Starred
-unfolding add sub mul div round lt isNan ofInt ofBits toBits toUnsigned grow tab grid pick floorOf nearestOf roundOf maxOf sqrtOf cosOf sinOf expNegOf scaledOf sideOf resizedOf placeOf firstOf tapOf byteOf blendOf sampleOf resizeOf gradientX sum neg eq le overMarked countOn mapOf sxOf syOf inside markedAt marksOf
+unfolding add sub mul div round lt isNan ofInt ofBits toBits toUnsigned grow tab grid pick floorOf nearestOf roundOf maxOf sqrtOf cosOf sinOf expNegOf scaledOf sideOf resizedOf placeOf firstOf tapOf byteOf blendOf sampleOf resizeOf gradientX sum neg eq le overMarked countOn mapOf sxOf syOf inside markedAt marksOf warpOf warp.sampleOf isPose identity turnedOf posedMatrix matrixOf sizeOf roomOf settledOf checkOf blurOf grayOf prepare.scaledOf preparedOf gradientY meanOf centredOf productOf statsOf overOf inverseOf dotOf timesOf steepOf projOf hessianOf errorOf movedOf updateOf solveOf weighedOf passOf start landed next after posed outcomeOf passIn runOf alignedOf sumOver absOf
 starred = record {
   marks-of-5x5 = refl;
   marks-of-4x5 = refl;
+  too-few-marks = refl;
+  no-filter = refl;
+  even-filter = refl;
+  no-pass = refl;
+  no-pass-row = refl;
   sides-halved = refl;
   side-at-least-8 = refl;
   side-rounded = refl;
@@ -28,4 +45,5 @@ starred = record {
   cosine-of-zero = refl;
   sine-of-minus-zero = refl;
   exponential-of-zero = refl;
+  no-inverse = refl;
 }

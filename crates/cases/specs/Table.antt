@@ -2,16 +2,22 @@
 use mathlib.Core.Path.{_≡_}
 use Prim.Native.Nat.{ℕ, _*_}
 use mathlib.Core.List.{List, [], _∷_, _++_, map}
-use lib.Ieee.{Float, binary32, ofBits, toBits}
-use Rattle.floats.specs.F32.{f32, 0f}
+use lib.Ieee.{Float, binary32, neg, ofBits, toBits}
+use Rattle.floats.specs.F32.{f32, 0f, 1f}
 use Rattle.root.specs.Root.{sqrtOf}
 use Rattle.series.specs.Series.{cosOf, sinOf, expNegOf}
+use Rattle.settings.specs.Settings.{defaultsOf}
 use Rattle.settings.specs.Sides.{resizedOf}
+use Rattle.settings.specs.declared.EccConfig.{EccConfig}
+use Rattle.settings.specs.declared.LongEdge.the-variants.{Never}
 use Rattle.resize.specs.Resize.{resizeOf}
 use Rattle.gradients.specs.Gradients.{gradientX}
 use Rattle.marks.specs.Marks.{countOn}
-use Rattle.pose.specs.Pose.{mapOf}
+use Rattle.pose.specs.Pose.{mapOf, matrixOf}
+use Rattle.pose.specs.declared.Answer.the-variants.{Posed, Refused}
+use Rattle.pose.specs.declared.Outcome.{Outcome}
 use Rattle.warp.specs.Warp.{marksOf}
+use Rattle.alignment.specs.Aligned.{alignedOf}
 
 -- an image by the bit patterns of its numbers
 abbrev pub patterns : List Float → List ℕ
@@ -29,10 +35,32 @@ eight r = r ++ (r ++ (r ++ (r ++ (r ++ (r ++ (r ++ r))))))
 abbrev pub markedAtRest : ℕ → ℕ → ℕ
 markedAtRest w h = countOn (marksOf (mapOf (record { theta = 0f; tx = 0f; ty = 0f })) w h) (w * h)
 
+-- a call with both frames alike and just the room that it needs
+abbrev pub alike : List ℕ → ℕ → ℕ → EccConfig → Outcome
+alike frame w h cfg = alignedOf frame frame w h cfg (12 * (w * h)) (w * h)
+
+-- the default settings with another filter, and with another number of passes
+abbrev pub filter : ℕ → EccConfig
+filter k = record { eps = defaultsOf .eps; «max_iter» = 100; «gauss_filt_size» = k; «resize_long_edge» = Never }
+
+abbrev pub passes : ℕ → EccConfig
+passes k = record { eps = defaultsOf .eps; «max_iter» = k; «gauss_filt_size» = 1; «resize_long_edge» = Never }
+
+-- a row 0 10 20 30 40
+abbrev pub steps : List ℕ
+steps = 0 ∷ 10 ∷ 20 ∷ 30 ∷ 40 ∷ []
+
 pub record Starred : Type 0 where
-  -- 1: at rest 16 pixels of 5x5 are marked, and 12 of 4x5
+  -- 1: at rest 16 pixels of 5x5 are marked, and 12 of 4x5: number 5
   pub marks-of-5x5 : markedAtRest 5 5 ≡ 16
   pub marks-of-4x5 : markedAtRest 4 5 ≡ 12
+  pub too-few-marks : alike (steps ++ (steps ++ (steps ++ steps))) 4 5 defaultsOf ≡ record { passes = 1; answer = Refused 5 }
+  -- 2: filter 0 and filter 2: number 1
+  pub no-filter : alike (7 ∷ []) 1 1 (filter 0) ≡ record { passes = 0; answer = Refused 1 }
+  pub even-filter : alike (7 ∷ []) 1 1 (filter 2) ≡ record { passes = 0; answer = Refused 1 }
+  -- 3: max_iter 0 on a 1x1 frame: a pose, all zero, rho -1, no pass; the matrix's first row has -0.0 second
+  pub no-pass : alike (7 ∷ []) 1 1 (passes 0) ≡ record { passes = 0; answer = Posed 0f 0f 0f (neg 1f) }
+  pub no-pass-row : toBits binary32 (matrixOf (Posed 0f 0f 0f (neg 1f)) .m01) ≡ 0x8000_0000
   -- 4: 700x350 at edge 350 becomes 350x175; 400x4 becomes 350x8; 400x12 becomes 350x11
   pub sides-halved : resizedOf 350 700 350 ≡ record { w = 350; h = 175 }
   pub side-at-least-8 : resizedOf 350 400 4 ≡ record { w = 350; h = 8 }
@@ -48,3 +76,5 @@ pub record Starred : Type 0 where
   pub cosine-of-zero : at cosOf 0 ≡ 0x3f80_0000
   pub sine-of-minus-zero : at sinOf 0x8000_0000 ≡ 0x8000_0000
   pub exponential-of-zero : at expNegOf 0 ≡ 0x3f80_0000
+  -- 9: 5x5, columns 0 10 20 30 40, both frames, default settings: 8 after 1 pass
+  pub no-inverse : alike (steps ++ (steps ++ (steps ++ (steps ++ steps)))) 5 5 defaultsOf ≡ record { passes = 1; answer = Refused 8 }
