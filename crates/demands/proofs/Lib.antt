@@ -1,1 +1,5 @@
 pub mod Finite
+pub mod Agree
+pub mod Bits
+pub mod Bytes
+pub mod Commits

@@ -76,15 +76,14 @@ fn turned(theta: f32, tx: f32, ty: f32) -> Matrix3
     requires { ⌜ Within theta 2 1 ⌝ }
     ensures { λ r. ⌜ r ≡ turnedOf theta tx ty ⌝ }
 {
-    let ct = series::cos(theta);
-    let st = series::sin(theta);
+    let map = affine_from_theta_tx_ty(Pose { theta, tx, ty });
     Matrix3 {
-        m00: ct,
-        m01: -st,
-        m02: tx,
-        m10: st,
-        m11: ct,
-        m12: ty,
+        m00: map.m00,
+        m01: map.m01,
+        m02: map.m02,
+        m10: map.m10,
+        m11: map.m11,
+        m12: map.m12,
         m20: 0.0,
         m21: 0.0,
         m22: 1.0,
