@@ -13,12 +13,12 @@ use Rattle.settings.specs.declared.Sides.{Sides}
 use Rattle.checks.specs.Checks.{sizeOf, roomOf, settledOf, checkOf}
 
 -- a test that gives a number above 0 did not do so, and the rest gave 0
-passed-by : (b : Bool) (v x : ℕ) → 1 ≤ v → pick b v x ≡ 0 → (b ≡ false) × (x ≡ 0)
+pub passed-by : (b : Bool) (v x : ℕ) → 1 ≤ v → pick b v x ≡ 0 → (b ≡ false) × (x ≡ 0)
 unfolding pick
 passed-by true v x h e = absurd (omega (arith, h, e))
 passed-by false v x h e = (refl, e)
 
-passed-on : (b : Bool) (x : ℕ) → pick b x 1 ≡ 0 → (b ≡ true) × (x ≡ 0)
+pub passed-on : (b : Bool) (x : ℕ) → pick b x 1 ≡ 0 → (b ≡ true) × (x ≡ 0)
 unfolding pick
 passed-on true x e = (refl, e)
 passed-on false x e = absurd (omega (arith, e))
