@@ -30,7 +30,6 @@ use Rattle.runs.specs.Runs.{Run, going, settled, refused, landed, next, after, 
 use Rattle.alignment.specs.Aligned.{passIn, runOf, alignedOf}
 use Rattle.demands.specs.Agree.{marksNext, runAfter, preparedAt, SeenAlike}
 use Rattle.demands.proofs.Bits.{prepared-same}
-use Rattle.demands.proofs.Commits.{only-one}
 
 -- ---- prepared templates
 
@@ -104,4 +103,4 @@ pub same-result : (template template′ input : List ℕ) (w h : ℕ) (cfg : Ecc
     checkOf (length template′) (length input) w h cfg k m ≡ 0 →
     SeenAlike template template′ input w h cfg →
     (r r′ : Outcome) → r ≡ alignedOf template input w h cfg k m → r′ ≡ alignedOf template′ input w h cfg k m → r ≡ r′
-same-result template template′ input w h cfg k m checked checked′ alike r r′ e e′ = only-one _ r r′ (e ∙ same-answer template template′ input w h cfg k m checked checked′ alike) e′
+same-result template template′ input w h cfg k m checked checked′ alike r r′ e e′ = e ∙ same-answer template template′ input w h cfg k m checked checked′ alike ∙ sym e′

@@ -2,4 +2,3 @@ pub mod Finite
 pub mod Agree
 pub mod Bits
 pub mod Bytes
-pub mod Commits

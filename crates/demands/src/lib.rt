@@ -9,4 +9,3 @@
 //   Agree    demand 3
 //   Bits     a prepared pixel is told by its bits
 //   Bytes    demand 3 of the templates' bytes, where no side changes and the filter is 1
-//   Commits  any two results that a contract admits are equal
