@@ -24,10 +24,11 @@ use Rattle.solve.specs.Solve.{steepOf, projOf, hessianOf, errorOf, movedOf, upd
 use Rattle.pass.specs.Pass.{weighedOf, passOf}
 use Rattle.runs.specs.Runs.{start, landed, next, after, posed, outcomeOf}
 use Rattle.alignment.specs.Aligned.{passIn, runOf, alignedOf}
+use Rattle.driver.specs.Pins.{nearestHeld, pinOf, posedOf, pinsOf}
 use Rattle.cases.specs.Table.{Starred}
 
 pub starred : Starred
-unfolding add sub mul div round lt isNan ofInt ofBits toBits toUnsigned grow tab grid pick floorOf nearestOf roundOf maxOf sqrtOf cosOf sinOf expNegOf scaledOf sideOf resizedOf placeOf firstOf tapOf byteOf blendOf sampleOf resizeOf gradientX sum neg eq le overMarked countOn mapOf sxOf syOf inside markedAt marksOf warpOf warp.sampleOf isPose identity turnedOf posedMatrix matrixOf sizeOf roomOf settledOf checkOf blurOf grayOf prepare.scaledOf preparedOf gradientY meanOf centredOf productOf statsOf overOf inverseOf dotOf timesOf steepOf projOf hessianOf errorOf movedOf updateOf solveOf weighedOf passOf start landed next after posed outcomeOf passIn runOf alignedOf sumOver absOf
+unfolding add sub mul div round lt isNan ofInt ofBits toBits toUnsigned grow tab grid pick floorOf nearestOf roundOf maxOf sqrtOf cosOf sinOf expNegOf scaledOf sideOf resizedOf placeOf firstOf tapOf byteOf blendOf sampleOf resizeOf gradientX sum neg eq le overMarked countOn mapOf sxOf syOf inside markedAt marksOf warpOf warp.sampleOf isPose identity turnedOf posedMatrix matrixOf sizeOf roomOf settledOf checkOf blurOf grayOf prepare.scaledOf preparedOf gradientY meanOf centredOf productOf statsOf overOf inverseOf dotOf timesOf steepOf projOf hessianOf errorOf movedOf updateOf solveOf weighedOf passOf start landed next after posed outcomeOf passIn runOf alignedOf sumOver absOf nearestHeld pinOf posedOf pinsOf
 starred = record {
   marks-of-5x5 = refl;
   marks-of-4x5 = refl;
@@ -45,5 +46,7 @@ starred = record {
   cosine-of-zero = refl;
   sine-of-minus-zero = refl;
   exponential-of-zero = refl;
+  shift-up = refl;
+  shift-down = refl;
   no-inverse = refl;
 }

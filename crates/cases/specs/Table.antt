@@ -2,6 +2,7 @@
 use mathlib.Core.Path.{_≡_}
 use Prim.Native.Nat.{ℕ, _*_}
 use mathlib.Core.List.{List, [], _∷_, _++_, map}
+use lib.IntN.{ℤ, pos, negℤ}
 use lib.Ieee.{Float, binary32, neg, ofBits, toBits}
 use Rattle.floats.specs.F32.{f32, 0f, 1f}
 use Rattle.root.specs.Root.{sqrtOf}
@@ -18,6 +19,7 @@ use Rattle.pose.specs.declared.Answer.the-variants.{Posed, Refused}
 use Rattle.pose.specs.declared.Outcome.{Outcome}
 use Rattle.warp.specs.Warp.{marksOf}
 use Rattle.alignment.specs.Aligned.{alignedOf}
+use Rattle.driver.specs.Pins.{pinsOf}
 
 -- an image by the bit patterns of its numbers
 abbrev pub patterns : List Float → List ℕ
@@ -45,6 +47,10 @@ filter k = record { eps = defaultsOf .eps; «max_iter» = 100; «gauss_filt_size
 
 abbrev pub passes : ℕ → EccConfig
 passes k = record { eps = defaultsOf .eps; «max_iter» = k; «gauss_filt_size» = 1; «resize_long_edge» = Never }
+
+-- dx of a pose with this bit pattern for tx
+abbrev pub dxAt : ℕ → ℤ
+dxAt b = pinsOf (Posed 0f (ofBits binary32 b) 0f 0f) .dx
 
 -- a row 0 10 20 30 40
 abbrev pub steps : List ℕ
@@ -76,5 +82,8 @@ pub record Starred : Type 0 where
   pub cosine-of-zero : at cosOf 0 ≡ 0x3f80_0000
   pub sine-of-minus-zero : at sinOf 0x8000_0000 ≡ 0x8000_0000
   pub exponential-of-zero : at expNegOf 0 ≡ 0x3f80_0000
+  -- 8: tx 1/512 gives 1 for the pins, tx -1/512 gives -1
+  pub shift-up : dxAt 0x3b00_0000 ≡ pos 1
+  pub shift-down : dxAt 0xbb00_0000 ≡ negℤ (pos 1)
   -- 9: 5x5, columns 0 10 20 30 40, both frames, default settings: 8 after 1 pass
   pub no-inverse : alike (steps ++ (steps ++ (steps ++ (steps ++ steps)))) 5 5 defaultsOf ≡ record { passes = 1; answer = Refused 8 }
