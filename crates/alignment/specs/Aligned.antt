@@ -43,4 +43,3 @@ workAfter number n xs = pick (eqb number 0) (put xs 0 (tab (12 * n) (λ _. 0f)))
 
 unfoldable pub marksAfter : ℕ → ℕ → List ℕ → List ℕ
 marksAfter number n ms = pick (eqb number 0) (put ms 0 (tab n (λ _. 0))) ms
-

@@ -34,7 +34,19 @@ fn passes(
     let mut spots = [0u32; 4096];
     let mut across = [0.0f32; 4096];
     let mut down = [0.0f32; 4096];
-    runs::run(work, marks, w, h, cfg.eps, cfg.max_iter, sx, sy, &mut spots, &mut across, &mut down)
+    runs::run(
+        work,
+        marks,
+        w,
+        h,
+        cfg.eps,
+        cfg.max_iter,
+        sx,
+        sy,
+        &mut spots,
+        &mut across,
+        &mut down,
+    )
 }
 
 // The call past its checks, the frames of w by h prepared at tw by th.
@@ -75,7 +87,15 @@ pub fn find_transform_ecc_euclidean(
     ensures { λ r. ⌜ r ≡ alignedOf (now (template .entry)) (now (input .entry)) w h cfg (length (now (work .entry))) (length (now (marks .entry))) ⌝ }
     ensures { λ r. ⌜ (let number = checkOf (length (now (template .entry))) (length (now (input .entry))) w h cfg (length (now (work .entry))) (length (now (marks .entry))) in (now (work .exit) ≡ workAfter number (sizeOf cfg w h) (now (work .entry))) × (now (marks .exit) ≡ marksAfter number (sizeOf cfg w h) (now (marks .entry)))) ⌝ }
 {
-    let number = checks::check(cfg, w, h, template.len(), input.len(), work.len(), marks.len());
+    let number = checks::check(
+        cfg,
+        w,
+        h,
+        template.len(),
+        input.len(),
+        work.len(),
+        marks.len(),
+    );
     if number != 0 {
         return Outcome {
             passes: 0,

@@ -64,7 +64,7 @@ past t i w h cfg k m e =
       filter-most = ltb-false _ _ (p .0);
       passes-most = ltb-false _ _ (q .0);
       work-fits = ltb-false _ _ (r .0);
-      marks-fit = ltb-false _ _ (s .0)
+      marks-fit = ltb-false _ _ (s .0);
     }
 
 -- the number of pixels, by the sides that were worked out

@@ -91,6 +91,7 @@ check-ends t i w h cfg k m =
   where
     room : Early (roomOf cfg w h k m)
     room = pick-both Early _ _ _ (lit≤ tt) (pick-both Early _ _ _ (lit≤ tt) (lit≤ tt))
+
     settings : Early (settledOf cfg w h k m)
     settings = pick-both Early _ _ _ (lit≤ tt) (pick-both Early _ _ _ (lit≤ tt) (pick-both Early _ _ _ (lit≤ tt) room))
 
