@@ -6,6 +6,13 @@ use libc::STDIN_FILENO;
 use libc::STDOUT_FILENO;
 use vectors::Line;
 
+fn agrees(kind: u64, words: &[u64]) -> bool {
+    if kind == 26 {
+        return calls::agrees(words);
+    }
+    vectors::agrees(words)
+}
+
 // Counts the vector that the first n words hold, by its kind.
 fn judge(words: &[u64], n: usize, seen: &mut [u64], agreed: &mut [u64]) {
     if n == 0 {
@@ -16,7 +23,7 @@ fn judge(words: &[u64], n: usize, seen: &mut [u64], agreed: &mut [u64]) {
     }
     let kind = words[0];
     count(seen, kind);
-    if vectors::agrees(&words[..n]) {
+    if agrees(kind, &words[..n]) {
         count(agreed, kind);
     }
 }
@@ -91,11 +98,12 @@ fn report_passes(seen: &[u64], agreed: &[u64]) {
     report(b"warp_three_inverse_map", 23, seen, agreed);
     report(b"centered_stats_in_place", 24, seen, agreed);
     report(b"try_inverse", 25, seen, agreed);
+    report(b"whole calls", 26, seen, agreed);
 }
 
 fn main() {
     let mut input = io::large_buffer();
-    let mut held = [0u64; 4096];
+    let mut held = [0u64; 8300];
     let mut seen_all = [0u64; 64];
     let mut agreed_all = [0u64; 64];
     let buf: &mut [u8] = &mut input;

@@ -8,6 +8,10 @@ mod shapes;
 mod words;
 
 pub use line::Line;
+pub use words::bytes;
+pub use words::float;
+pub use words::same_floats;
+pub use words::word;
 
 pub fn agrees(words: &[u64]) -> bool {
     if words.len() == 0 {
