@@ -17,6 +17,7 @@ use Rattle.lists.proofs.Fold.{pick-where, pick-both, pick-true, pick-false}
 use Rattle.floats.specs.Bound.{Within}
 use Rattle.settings.specs.declared.EccConfig.{EccConfig}
 use Rattle.checks.specs.Checks.{roomOf, settledOf, checkOf}
+use Rattle.pose.specs.Pose.{numberOf}
 use Rattle.pose.specs.declared.Pose.{Pose}
 use Rattle.pose.specs.declared.Answer.{Answer}
 use Rattle.pose.specs.declared.Answer.the-variants.{Posed, Refused}
@@ -26,7 +27,7 @@ use Rattle.solve.specs.declared.Step.the-variants.{Refuse, Stop, Move}
 use Rattle.runs.specs.Runs.{Run, going, settled, refused, start, landed, next, after, posed, outcomeOf}
 use Rattle.runs.proofs.Moves.{Sound, pass-sound}
 use Rattle.alignment.specs.Aligned.{passIn, runOf, alignedOf}
-use Rattle.demands.specs.Finite.{endsIn, numberOf, clears}
+use Rattle.demands.specs.Finite.{endsIn, clears}
 
 -- ---- the passes
 

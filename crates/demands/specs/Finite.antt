@@ -11,11 +11,6 @@ unfoldable pub endsIn : ℕ → ℕ → Answer → Bool
 endsIn a b (Posed theta tx ty rho) = finite theta && finite tx && finite ty && finite rho
 endsIn a b (Refused n) = leb a n && leb n b
 
--- document 01's number of an answer
-unfoldable pub numberOf : Answer → ℕ
-numberOf (Posed theta tx ty rho) = 0
-numberOf (Refused n) = n
-
 -- the numbers that leave work and marks cleared: 0, and 5 upwards
 unfoldable pub clears : ℕ → Bool
 clears n = eqb n 0 || leb 5 n

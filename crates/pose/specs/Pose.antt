@@ -1,4 +1,5 @@
 -- The matrix of a pose and of an answer: document 000's affine_from_theta_tx_ty and identity3. Definitions only.
+use Prim.Native.Nat.{ℕ}
 use mathlib.Core.Bool.{Bool, _&&_}
 use lib.Ieee.{Float, neg, le}
 use lib.Ieee.Scale.{finite}
@@ -36,3 +37,8 @@ unfoldable pub matrixOf : Answer → Matrix3
 unfolding identity posedMatrix
 matrixOf (Refused k) = identity
 matrixOf (Posed theta tx ty rho) = posedMatrix theta tx ty
+
+-- document 01's number of an answer: 0 for a pose
+unfoldable pub numberOf : Answer → ℕ
+numberOf (Refused k) = k
+numberOf (Posed theta tx ty rho) = 0

@@ -1,7 +1,7 @@
 // Poses and answers: what the passes carry, what a call hands back, and the matrix of each.
 ghost use mathlib.Core.Path.{_≡_};
 ghost use Rattle.floats.specs.Bound.{Within};
-ghost use Rattle.pose.specs.Pose.{mapOf, identity, isPose, turnedOf, posedMatrix, matrixOf};
+ghost use Rattle.pose.specs.Pose.{mapOf, identity, isPose, turnedOf, posedMatrix, matrixOf, numberOf};
 use inverse::Matrix3;
 
 // The running pose.
@@ -128,5 +128,20 @@ pub fn matrix_of(a: Answer) -> Matrix3
             ty,
             rho: _,
         } => posed_matrix(theta, tx, ty),
+    }
+}
+
+// Document 01's number of an answer: 0 for a pose.
+pub fn number_of(answer: Answer) -> u8
+    ensures { λ r. ⌜ r ≡ numberOf answer ⌝ }
+{
+    match answer {
+        Answer::Refused(k) => k,
+        Answer::Posed {
+            theta: _,
+            tx: _,
+            ty: _,
+            rho: _,
+        } => 0,
     }
 }
