@@ -1,0 +1,5 @@
+pub mod Cases
+pub mod Equation
+pub mod Pieces
+pub mod Right
+pub mod Store

@@ -1,0 +1,4 @@
+pub mod Bounded
+pub mod Meets
+pub mod ReadOver
+pub mod Waits
