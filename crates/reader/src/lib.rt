@@ -59,16 +59,7 @@ fn put_line(out: &mut [u8], at: usize, l: Line) -> usize
     requires { ⌜ at + 100 ≤ length (now out) ⌝ }
     ensures { λ r. ⌜ Wrote (now (out .entry)) at (textOf l) 100 (now (out .exit)) r ⌝ }
 {
-    text::put_line(
-        out,
-        at,
-        l.position,
-        l.number,
-        l.passes,
-        l.dx,
-        l.dy,
-        l.turn,
-    )
+    text::put_line(out, at, l.position, l.number, l.passes, l.dx, l.dy, l.turn)
 }
 
 // The last line's text.
@@ -113,13 +104,7 @@ fn refill(input: i32, run: Run, buf: &mut [u8], out: &[u8]) -> Run
 }
 
 // One step of the stream over the bytes that are still to be used.
-fn look(
-    run: Run,
-    buf: &[u8],
-    store: &mut [u8],
-    work: &mut [f32],
-    marks: &mut [u8],
-) -> Step
+fn look(run: Run, buf: &[u8], store: &mut [u8], work: &mut [f32], marks: &mut [u8]) -> Step
     requires { ⌜ (run .at ≤ run .end) × (run .end ≤ length (now buf)) × (run .state .frames < 18446744073709551615) ⌝ }
     ensures { λ r. ⌜ (r ≡ stepOf (run .state) (pending run (now (buf .entry))) (now (store .entry)) (length (now (work .entry))) (length (now (marks .entry)))) × (r .used ≤ run .end - run .at) × (r .state .frames ≤ run .state .frames + 1) ⌝ }
     ensures { λ r. ⌜ now (store .exit) ≡ storeOf (run .state) (pending run (now (buf .entry))) (now (store .entry)) ⌝ }
@@ -211,9 +196,5 @@ pub fn log(input: i32) {
         run = turn(input, run, buf, out, store, work, marks);
         turns -= 1;
     }
-    close(
-        out,
-        run.put,
-        stream::finish(run.state, run.end - run.at),
-    );
+    close(out, run.put, stream::finish(run.state, run.end - run.at));
 }
