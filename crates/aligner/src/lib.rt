@@ -54,7 +54,7 @@ fn refused(number: u8) -> Outcome
 }
 
 // The checks that come first, of a frame and a store by their lengths.
-fn entry(frame: usize, w: usize, h: usize, store: usize) -> u8
+pub fn entry(frame: usize, w: usize, h: usize, store: usize) -> u8
     ensures { λ r. ⌜ r ≡ entryOf frame w h store ⌝ }
 {
     if w > EccConfig::MOST_SIDE {

@@ -19,7 +19,7 @@ use Rattle.records.proofs.next.Reads as next
 use Rattle.records.proofs.next.Kinds as next-kinds
 
 -- THE LAW: what is held to be a definition's value can be that value alone
-only-one : {A : Type 0} (d r r′ : A) → r ≡ d → r′ ≡ d → r ≡ r′
+pub only-one : {A : Type 0} (d r r′ : A) → r ≡ d → r′ ≡ d → r ≡ r′
 only-one d r r′ e e′ = e ∙ sym e′
 
 -- the matrix of an answer

@@ -1,0 +1,393 @@
+//! The library against the oracle (tools/oracle), by way of the header (library.c) and of the Rust wrapper: every parameter of each call differs
+//! from those that it could be taken for, and what is handed back and what the lent memory holds afterwards is compared bit for bit.
+//!
+//!   library [CALLS]
+//!
+//! The aligner, the lengths, the matrix and the pins are held to document 01's rules as they are written down here.
+
+#[allow(dead_code)]
+#[path = "../oracle/ecc.rs"]
+mod ecc;
+#[allow(dead_code)]
+#[path = "../vectors/lines.rs"]
+mod lines;
+#[allow(dead_code)]
+#[path = "../../rust/quayhollow.rs"]
+mod quayhollow;
+#[allow(dead_code)]
+#[path = "../oracle/rules.rs"]
+mod rules;
+use ecc::EccConfig;
+use lines::Stream;
+use quayhollow::{Answer, Outcome, Pose, Settings, State};
+use std::ptr::{null, null_mut};
+
+#[repr(C)]
+struct Call {
+    template: *const u8,
+    template_len: usize,
+    input: *const u8,
+    input_len: usize,
+    w: usize,
+    h: usize,
+    eps: f32,
+    max_iter: usize,
+    filter: usize,
+    edge: usize,
+    state: *mut u64,
+    state_len: usize,
+    store: *mut u8,
+    store_len: usize,
+    work: *mut f32,
+    work_len: usize,
+    marks: *mut u8,
+    marks_len: usize,
+    pose: *mut f32,
+    pose_len: usize,
+}
+
+#[repr(C)]
+struct Handed {
+    number: u8,
+    theta: f32,
+    tx: f32,
+    ty: f32,
+    matrix: *mut f32,
+    matrix_len: usize,
+    pins: *mut i16,
+    pins_len: usize,
+}
+
+extern "C" {
+    fn c_align(c: *const Call) -> u32;
+    fn c_estimate(c: *const Call) -> u32;
+    fn c_matrix(a: *const Handed);
+    fn c_pins(a: *const Handed);
+    fn c_lengths(c: *const Call, out: *mut usize);
+    fn c_told(code: u32, out: *mut u32);
+    fn c_defaults(c: *mut Call);
+}
+
+/// the memory lent to a call
+#[derive(Clone)]
+struct Memory {
+    state: Vec<u64>,
+    store: Vec<u8>,
+    work: Vec<f32>,
+    marks: Vec<u8>,
+    pose: Vec<f32>,
+}
+
+impl Memory {
+    /// the bits of all of it
+    fn bits(&self) -> (&[u64], &[u8], Vec<u32>, &[u8], Vec<u32>) {
+        let bits = |xs: &[f32]| xs.iter().map(|x| x.to_bits()).collect();
+        (&self.state, &self.store, bits(&self.work), &self.marks, bits(&self.pose))
+    }
+}
+
+/// what a call is handed beside the memory
+struct Given {
+    template: Vec<u8>,
+    input: Vec<u8>,
+    w: usize,
+    h: usize,
+    settings: Settings,
+}
+
+impl Given {
+    fn record(&self, m: &mut Memory) -> Call {
+        let s = self.settings;
+        Call {
+            template: self.template.as_ptr(),
+            template_len: self.template.len(),
+            input: self.input.as_ptr(),
+            input_len: self.input.len(),
+            w: self.w,
+            h: self.h,
+            eps: s.eps,
+            max_iter: s.max_iter,
+            filter: s.filter,
+            edge: s.edge,
+            state: m.state.as_mut_ptr(),
+            state_len: m.state.len(),
+            store: m.store.as_mut_ptr(),
+            store_len: m.store.len(),
+            work: m.work.as_mut_ptr(),
+            work_len: m.work.len(),
+            marks: m.marks.as_mut_ptr(),
+            marks_len: m.marks.len(),
+            pose: m.pose.as_mut_ptr(),
+            pose_len: m.pose.len(),
+        }
+    }
+
+    /// the oracle's answer, and what is cleared
+    fn aligned(&self, template: &[u8], m: &mut Memory) -> ecc::Outcome {
+        let s = self.settings;
+        let cfg = EccConfig { eps: s.eps, max_iter: s.max_iter, gauss_filt_size: s.filter, resize_long_edge: (s.edge > 0).then_some(s.edge) };
+        let o = ecc::find_transform_ecc_euclidean(template, &self.input, self.w, self.h, cfg, m.work.len(), m.marks.len());
+        if o.number == 0 || o.number > 4 {
+            let n = pixels(self.w, self.h, s.edge);
+            m.work[..12 * n].fill(0.0);
+            m.marks[..n].fill(0);
+        }
+        o
+    }
+
+    /// document 01's aligner: 2, length, 13; then the frame is kept, with 11, 12 or the alignment's answer
+    fn estimated(&self, m: &mut Memory) -> ecc::Outcome {
+        let refusal = |number| ecc::Outcome { number, passes: 0, theta: 0.0, tx: 0.0, ty: 0.0, rho: 0.0 };
+        let (w, h) = (self.w, self.h);
+        if w > 4096 || h > 4096 {
+            return refusal(2);
+        }
+        if self.input.len() != w * h {
+            return refusal(1);
+        }
+        if m.store.len() < w * h {
+            return refusal(13);
+        }
+        let o = match m.state[..] {
+            [held, pw, ph, ..] if held != 0 && (pw, ph) == (w as u64, h as u64) => self.aligned(&m.store[..w * h].to_vec(), m),
+            [held, _, _, ..] if held != 0 => refusal(12),
+            _ => refusal(11),
+        };
+        m.store[..w * h].copy_from_slice(&self.input);
+        if m.state.len() >= 3 {
+            m.state[..3].copy_from_slice(&[1, w as u64, h as u64]);
+        }
+        o
+    }
+}
+
+/// document 01's n; 0 for sides that are 0 or above 4,096
+fn pixels(w: usize, h: usize, edge: usize) -> usize {
+    if w == 0 || h == 0 || w > 4096 || h > 4096 {
+        return 0;
+    }
+    let (tw, th, _, _) = ecc::resized(w, h, Some(edge));
+    tw * th
+}
+
+/// document 01's pins of three numbers: the product is exact in f64
+fn pin(x: f32, by: f64) -> i16 {
+    (x as f64 * by).round().clamp(-32768.0, 32767.0) as i16
+}
+
+/// how many comparisons were made, and how many failed
+struct Tally {
+    tried: usize,
+    wrong: usize,
+}
+
+impl Tally {
+    fn hold(&mut self, agrees: bool, what: &str) {
+        self.tried += 1;
+        if !agrees {
+            self.wrong += 1;
+            if self.wrong <= 10 {
+                eprintln!("differs: {what}");
+            }
+        }
+    }
+
+    /// a call by the header: code, and all memory
+    fn by_c(&mut self, what: &str, code: u32, o: &ecc::Outcome, got: &Memory, expected: &mut Memory) {
+        if expected.pose.len() >= 4 {
+            expected.pose[..4].copy_from_slice(&[o.theta, o.tx, o.ty, o.rho]);
+        }
+        let mut told = [0; 2];
+        unsafe { c_told(code, told.as_mut_ptr()) };
+        self.hold(told == [o.number as u32, o.passes as u32], what);
+        self.hold(got.bits() == expected.bits(), what);
+    }
+
+    /// a call by the wrapper: its outcome, with the matrix and the pins, and the memory but for the pose
+    fn by_rust(&mut self, what: &str, got: Outcome, o: &ecc::Outcome, m: &mut Memory, expected: &Memory) {
+        m.pose = expected.pose.clone();
+        let numbers = match got.answer {
+            Answer::Posed(p) => [p.theta, p.tx, p.ty, p.rho],
+            Answer::Refused(_) => [0.0; 4],
+        };
+        let same = numbers.map(f32::to_bits) == [o.theta, o.tx, o.ty, o.rho].map(f32::to_bits);
+        self.hold(same && (got.answer.number(), got.passes as usize) == (o.number, o.passes), what);
+        self.hold(m.bits() == expected.bits(), what);
+        self.hold(got.answer.matrix().map(|r| r.map(f32::to_bits)) == ecc::matrix(o).map(|r| r.map(f32::to_bits)), what);
+        let pins = got.answer.pins();
+        self.hold([pins.dx, pins.dy, pins.turn] == [pin(o.tx, 256.0), pin(o.ty, 256.0), pin(o.theta, 8192.0)], what);
+    }
+}
+
+fn pick<T: Copy>(s: &mut Stream, of: &[T]) -> T {
+    of[s.next() as usize % of.len()]
+}
+
+/// a frame of ramps and noise, and one like it; some are flat
+fn frames(s: &mut Stream, w: usize, h: usize) -> (Vec<u8>, Vec<u8>) {
+    let most = pick(s, &[40, 40, 40, 40, 40, 1]);
+    let (a, b, c) = (s.next() as usize % most, s.next() as usize % most, s.next() as usize % most.min(8));
+    let noise = s.bytes(w * h);
+    let at = |i: usize, d: usize| ((i % w + d) * a + (i / w) * b + (noise[i] as usize % 16) * c) as u8;
+    let first = (0..w * h).map(|i| at(i, 0)).collect();
+    (first, (0..w * h).map(|i| at(i, 1)).collect())
+}
+
+/// sides that differ, frames, settings and memory: as a call needs them most of the time, a little off at others
+fn given(s: &mut Stream) -> (Given, Memory) {
+    let (w, h) = pick(s, &[(7, 6), (6, 9), (9, 5), (5, 11), (12, 8), (8, 10)]);
+    let (mut template, mut input) = frames(s, w, h);
+    let settings = Settings {
+        eps: pick(s, &[1e-4, 1e-3, 0.05, -1.0, f32::NAN]),
+        max_iter: pick(s, &[0, 1, 3, 8, 20, 1001]),
+        filter: pick(s, &[1, 3, 5, 7, 9, 33, 2]),
+        edge: pick(s, &[0, 8, 9, 10, 11]),
+    };
+    let n = pixels(w, h, settings.edge);
+    let off = s.next() % 16;
+    let mut w = w;
+    match off {
+        0 => template.truncate(w * h - 1),
+        1 => input.truncate(w * h - 1),
+        2 => w = pick(s, &[0, 4097, usize::MAX]),
+        _ => (),
+    }
+    let room = |count: usize, s: &mut Stream| if off == 3 { count.saturating_sub(s.next() as usize % 2) } else { count + s.next() as usize % 9 };
+    let (work, marks, store) = (room(12 * n, s), room(n, s), room(w.min(99) * h, s));
+    let held = pick(s, &[0, 1, 1, 1, 7, u64::MAX]);
+    let state = [held, w as u64, pick(s, &[h, h, h, h, h + 1]) as u64, 77, 78, 79];
+    let pose = pick(s, &[4, 4, 5, 9, 3, 0]);
+    let memory = Memory {
+        state: state[..pick(s, &[3, 3, 3, 3, 4, 6, 2, 0])].to_vec(),
+        store: s.bytes(store),
+        work: s.floats(work),
+        marks: s.bytes(marks),
+        pose: s.floats(pose),
+    };
+    (Given { template, input, w, h, settings }, memory)
+}
+
+/// calls of the alignment and of the aligner, one after another on the same memory
+fn calls(t: &mut Tally, count: usize) {
+    let mut s = Stream(20260117);
+    let mut ends = [0; 14];
+    for _ in 0..count {
+        let (g, m) = given(&mut s);
+        let (set, w, h) = (g.settings, g.w, g.h);
+
+        let mut expected = m.clone();
+        let o = g.aligned(&g.template, &mut expected);
+        let mut by_c = m.clone();
+        let code = unsafe { c_align(&g.record(&mut by_c)) };
+        t.by_c("align by the header", code, &o, &by_c, &mut expected);
+        let mut by_rust = m.clone();
+        let got = quayhollow::align(&g.template, &g.input, w, h, set, &mut by_rust.work, &mut by_rust.marks);
+        t.by_rust("align by the wrapper", got, &o, &mut by_rust, &expected);
+        ends[o.number as usize] += 1;
+
+        // the store holds the frame before, or what it held
+        let mut m = m;
+        if s.next() % 4 > 0 && m.store.len() >= g.template.len() {
+            m.store[..g.template.len()].copy_from_slice(&g.template);
+        }
+        let mut expected = m.clone();
+        let o = g.estimated(&mut expected);
+        let mut by_c = m.clone();
+        let code = unsafe { c_estimate(&g.record(&mut by_c)) };
+        t.by_c("estimate by the header", code, &o, &by_c, &mut expected);
+        ends[o.number as usize] += 1;
+        if let [a, b, c] = m.state[..] {
+            let (mut by_rust, mut state) = (m.clone(), State([a, b, c]));
+            let got = quayhollow::estimate(&g.input, w, h, set, &mut state, &mut by_rust.store, &mut by_rust.work, &mut by_rust.marks);
+            by_rust.state = state.0.to_vec();
+            t.by_rust("estimate by the wrapper", got, &o, &mut by_rust, &expected);
+        }
+    }
+    println!("calls that end with each number from 0 to 13: {ends:?}");
+}
+
+/// lengths for sides and edges of all kinds; the version, the defaults, and memory of no length at null
+fn lengths(t: &mut Tally) {
+    let sides = [0, 1, 4, 7, 8, 9, 12, 350, 351, 400, 700, 4095, 4096, 4097, 1 << 32, usize::MAX];
+    let mut c = Given { template: vec![], input: vec![], w: 0, h: 0, settings: Settings::default() }.record(&mut Memory {
+        state: vec![],
+        store: vec![],
+        work: vec![],
+        marks: vec![],
+        pose: vec![],
+    });
+    for (w, h, edge) in sides.iter().flat_map(|&w| sides.iter().flat_map(move |&h| sides.map(|edge| (w, h, edge)))) {
+        let n = pixels(w, h, edge);
+        let store = if w > 4096 || h > 4096 { 0 } else { w * h };
+        let expected = [12 * n, n, store, 1];
+        (c.w, c.h, c.edge) = (w, h, edge);
+        let mut out = [9; 4];
+        unsafe { c_lengths(&c, out.as_mut_ptr()) };
+        t.hold(out == expected, "lengths by the header");
+        let got = [quayhollow::work_len(w, h, edge), quayhollow::marks_len(w, h, edge), quayhollow::store_len(w, h), quayhollow::version() as usize];
+        t.hold(got == expected, "lengths by the wrapper");
+    }
+    unsafe { c_defaults(&mut c) };
+    let defaults = Settings { eps: c.eps, max_iter: c.max_iter, filter: c.filter, edge: c.edge };
+    let oracle = EccConfig::default();
+    let expected = Settings { eps: oracle.eps, max_iter: oracle.max_iter, filter: oracle.gauss_filt_size, edge: oracle.resize_long_edge.unwrap() };
+    t.hold(defaults == expected && Settings::default() == expected, "defaults");
+
+    (c.template, c.input, c.state, c.store, c.work, c.marks, c.pose) = (null(), null(), null_mut(), null_mut(), null_mut(), null_mut(), null_mut());
+    for (w, h, align, estimate) in [(0, 0, 1, 11), (0, 9, 1, 11), (5000, 0, 2, 2), (3, 4, 1, 1)] {
+        (c.w, c.h) = (w, h);
+        t.hold(unsafe { [c_align(&c), c_estimate(&c)] } == [align, estimate], "null");
+    }
+}
+
+/// the matrix and the pins of answers handed in, with any bits, and slices of any length
+fn answers(t: &mut Tally, count: usize) {
+    let mut s = Stream(20260118);
+    for _ in 0..count {
+        let number = |s: &mut Stream| match s.next() % 8 {
+            0 => f32::from_bits(s.next()),
+            1 => pick(s, &[f32::NAN, f32::INFINITY, f32::NEG_INFINITY, 2.0, -2.0, 2.0000002, -0.0, 128.0, -128.0, 0.001953125]),
+            _ => (s.next() as f32 / 4294967296.0 - 0.5) * pick(s, &[0.1, 4.0, 40.0, 300.0]),
+        };
+        let (theta, tx, ty) = (number(&mut s), number(&mut s), number(&mut s));
+        let no = pick(&mut s, &[0, 0, 0, 1, 10, 13, 128, 255]);
+        let o = ecc::Outcome { number: no, passes: 0, theta, tx, ty, rho: 0.0 };
+        let finite = no == 0 && theta.is_finite() && tx.is_finite() && ty.is_finite();
+        let three = if finite { [pin(tx, 256.0), pin(ty, 256.0), pin(theta, 8192.0)] } else { [0; 3] };
+        let nine: Vec<u32> = ecc::matrix(&o).concat().iter().map(|x| x.to_bits()).collect();
+
+        let long = pick(&mut s, &[9, 9, 10, 12, 8, 0]);
+        let mut matrix = s.floats(long);
+        let mut pins: Vec<i16> = (0..pick(&mut s, &[3, 3, 4, 6, 2, 0])).map(|i| 1000 + i).collect();
+        let mut all: Vec<u32> = matrix.iter().map(|x| x.to_bits()).collect();
+        let mut whole = pins.clone();
+        if all.len() >= 9 {
+            all[..9].copy_from_slice(&nine);
+        }
+        if whole.len() >= 3 {
+            whole[..3].copy_from_slice(&three);
+        }
+        let (matrix_len, pins_len) = (matrix.len(), pins.len());
+        let a = Handed { number: no, theta, tx, ty, matrix: matrix.as_mut_ptr(), matrix_len, pins: pins.as_mut_ptr(), pins_len };
+        unsafe { c_matrix(&a) };
+        unsafe { c_pins(&a) };
+        t.hold(matrix.iter().map(|x| x.to_bits()).eq(all), "matrix by the header");
+        t.hold(pins == whole, "pins by the header");
+        if no == 0 {
+            let answer = Answer::Posed(Pose { theta, tx, ty, rho: 0.0 });
+            t.hold(answer.matrix().concat().iter().map(|x| x.to_bits()).eq(nine), "matrix by the wrapper");
+            let p = answer.pins();
+            t.hold([p.dx, p.dy, p.turn] == three, "pins by the wrapper");
+        }
+    }
+}
+
+fn main() {
+    let count = std::env::args().nth(1).map_or(20_000, |n| n.parse().expect("CALLS is a number"));
+    let mut t = Tally { tried: 0, wrong: 0 };
+    lengths(&mut t);
+    answers(&mut t, count);
+    calls(&mut t, count);
+    println!("compared {}, {} differences", t.tried, t.wrong);
+    std::process::exit((t.wrong > 0) as i32);
+}
