@@ -1,0 +1,34 @@
+-- `encode::put_half` stores two bytes. Assumes nothing.
+use native.Mathlib.Omega.{arith}
+use borrow.Author.Needs.{needs}
+use denote.Ref.{now}
+use lib.ListN.{length-set}
+use Rattle.encode.specs.Bytes.{halfBytes}
+use Rattle.encode.proofs.Pieces.{two-put}
+use Rattle.encode.proofs.put_half.Statement.{statement}
+use Rattle.encode.proofs.put_half.Tie as tie
+
+cast-out : tie.Need-cast-out
+cast-out c = search needs
+
+slice-write-out : tie.Need-slice-write-out
+slice-write-out c = search needs
+
+cast-out-2 : tie.Need-cast-out-2
+cast-out-2 c = search needs
+
+add-out : tie.Need-add-out
+add-out c = search needs
+
+slice-write-out-2 : tie.Need-slice-write-out-2
+slice-write-out-2 c = simp length-set (omega (arith, c .pre))
+
+same-length : tie.Need-same-length
+same-length c = search needs
+
+returns : tie.Need-returns
+unfolding halfBytes
+returns c = two-put (now (c .args .out)) (c .args .at) _ _ (c .pre)
+
+pub put-half-spec : {M : Type 1} → statement M
+put-half-spec = tie.close (tie.spec cast-out slice-write-out cast-out-2 add-out slice-write-out-2 same-length returns)

@@ -1,0 +1,94 @@
+-- The numbers of the options fit the fields of a settings record, whatever the words are. Assumes nothing.
+use Prim.Native.Nat.{ℕ, _+_, _-_, _<_, _^_}
+use mathlib.Core.Bool.{false}
+use mathlib.Core.Path.{_≡_, subst}
+use mathlib.Core.List.{List}
+use native.Mathlib.Omega.{arith}
+use borrow.Author.Tests.{leb-true}
+use lib.Ieee.{binary32, round}
+use lib.Ieee.Bits.{toBits-lt, ofBits-fits}
+use lib.Ieee.Fits.{round-fits}
+use lib.ListN.{length}
+use Rattle.records.proofs.Known.{either}
+use Rattle.scan.specs.Scan.{digitsAt}
+use Rattle.settings.specs.Settings.{defaultsOf}
+use Rattle.options.specs.declared.Value.{Value}
+use Rattle.options.specs.declared.Value.the-variants.{Is, Wrong}
+use Rattle.options.specs.declared.Options.{Options}
+use Rattle.options.specs.declared.Taken.{Taken}
+use Rattle.options.specs.declared.Taken.the-variants.{Settings, Picture, Bad}
+use Rattle.options.specs.Words.{wholeOf, ratioOf, behindOf, pointOf, epsOf, onValue, withEps, withPasses, withFilter, withEdge, takenOf, optionsOf, Ranged}
+
+unfoldable RangedTaken : Taken → Type 0
+RangedTaken (Settings o) = Ranged o
+RangedTaken Picture = Unit {0}
+RangedTaken Bad = Unit {0}
+
+unfoldable Below : ℕ → Value → Type 0
+Below m (Is n) = n < m
+Below m Wrong = Unit {0}
+
+wrong : (m : ℕ) → Below m Wrong
+unfolding Below
+wrong m = tt
+
+is : (m n : ℕ) → n < m → Below m (Is n)
+unfolding Below
+is m n h = h
+
+below-whole : (s : List ℕ) (a most : ℕ) → Below (most + 1) (wholeOf s a most)
+unfolding wholeOf
+below-whole s a most =
+    either (Below (most + 1)) _ _ _
+    (λ p. either (Below (most + 1)) _ _ _ (λ q. either (Below (most + 1)) _ _ _ (λ r. is _ _ (omega (arith, leb-true _ most r))) (λ r. wrong _)) (λ q. wrong _)) (λ p. wrong _)
+
+below-ratio : (n k : ℕ) → Below 4294967296 (ratioOf n k)
+unfolding ratioOf
+below-ratio n k =
+    either (Below 4294967296) _ _ _
+    (λ p. either (Below 4294967296) _ _ _ (λ q. is _ _ (toBits-lt binary32 (round binary32 false n (10 ^ k)) (round-fits binary32 false n (10 ^ k)))) (λ q. wrong _)) (λ p. wrong _)
+
+below-behind : (s : List ℕ) (b v : ℕ) → Below 4294967296 (behindOf s b v)
+unfolding behindOf
+below-behind s b v = either (Below 4294967296) _ _ _ (λ p. below-ratio (digitsAt s b v 16777217 .value) (length s - b)) (λ p. wrong _)
+
+below-point : (s : List ℕ) (b v : ℕ) → Below 4294967296 (pointOf s b v)
+unfolding pointOf
+below-point s b v =
+    either (Below 4294967296) _ _ _ (λ p. below-ratio v 0) (λ p. either (Below 4294967296) _ _ _ (λ q. below-behind s (b + 1) v) (λ q. wrong _))
+
+below-eps : (s : List ℕ) (a : ℕ) → Below 4294967296 (epsOf s a)
+unfolding epsOf
+below-eps s a =
+    either (Below 4294967296) _ _ _ (λ p. below-point s (digitsAt s a 0 16777217 .next) (digitsAt s a 0 16777217 .value)) (λ p. wrong _)
+
+on-value : (m : ℕ) (v : Value) (f : ℕ → Options) → Below m v → ((n : ℕ) → n < m → Ranged (f n)) → RangedTaken (onValue v f)
+unfolding Below onValue RangedTaken
+on-value m (Is n) f h g = g n h
+on-value m Wrong f h g = tt
+
+bad : RangedTaken Bad
+unfolding RangedTaken
+bad = tt
+
+picture : RangedTaken Picture
+unfolding RangedTaken
+picture = tt
+
+-- THE LAW
+ranged : (o : Options) (s : List ℕ) → Ranged o → RangedTaken (takenOf o s)
+unfolding takenOf
+ranged o s r =
+    either RangedTaken _ _ _ (λ a. on-value 4294967296 (epsOf s 6) (withEps o) (below-eps s 6) (λ n h. record { eps = h; passes = r .passes; filter = r .filter; edge = r .edge }))
+    (λ a. either RangedTaken _ _ _ (λ b. on-value 4294967296 (wholeOf s 11 4294967295) (withPasses o) (below-whole s 11 4294967295) (λ n h. record { eps = r .eps; passes = h; filter = r .filter; edge = r .edge }))
+    (λ b. either RangedTaken _ _ _ (λ d. on-value 65536 (wholeOf s 9 65535) (withFilter o) (below-whole s 9 65535) (λ n h. record { eps = r .eps; passes = r .passes; filter = h; edge = r .edge }))
+    (λ d. either RangedTaken _ _ _ (λ e. on-value 4294967296 (wholeOf s 7 4294967295) (withEdge o) (below-whole s 7 4294967295) (λ n h. record { eps = r .eps; passes = r .passes; filter = r .filter; edge = h }))
+    (λ e. either RangedTaken _ _ _ (λ g. bad) (λ g. picture)))))
+
+pub defaults-ranged : Ranged (optionsOf defaultsOf)
+unfolding optionsOf
+defaults-ranged = record { eps = toBits-lt binary32 (defaultsOf .eps) (ofBits-fits binary32 0x38d1_b717); passes = omega arith; filter = omega arith; edge = omega arith }
+
+pub stays : (o : Options) (s : List ℕ) (p : Options) → Ranged o → takenOf o s ≡ Settings p → Ranged p
+unfolding RangedTaken
+stays o s p r e = subst RangedTaken e (ranged o s r)

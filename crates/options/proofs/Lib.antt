@@ -1,0 +1,4 @@
+pub mod Prefix
+pub mod Tens
+pub mod Values
+pub mod Fields

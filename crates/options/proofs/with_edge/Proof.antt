@@ -1,0 +1,24 @@
+-- `options::with_edge` changes one number. Assumes nothing.
+use borrow.Author.Needs.{needs}
+use Rattle.options.specs.Words.{withEdge}
+use Rattle.options.proofs.Values.{no-value, a-value}
+use Rattle.options.proofs.with_edge.Statement.{statement}
+use Rattle.options.proofs.with_edge.Tie as tie
+
+whole-requires : tie.Need-whole-requires
+whole-requires c κs = search needs
+
+enum-known-n : tie.Need-enum-known-n
+enum-known-n c = search needs
+
+enum-told : tie.Need-enum-told
+enum-told c = search needs
+
+returns : tie.Need-returns
+returns c = no-value (withEdge (c .before .before .before .before .args .o)) (c .before .before .whole .ensures) (c .enum-told .given .1)
+
+returns-2 : tie.Need-returns-2
+returns-2 c = a-value (withEdge (c .before .before .before .before .before .args .o)) (c .before .before .before .whole .ensures) _ (c .before .n .given .1)
+
+pub with-edge-spec : {M : Type 1} → statement M
+with-edge-spec = tie.close (tie.spec whole-requires enum-known-n enum-told returns returns-2)
