@@ -1,5 +1,5 @@
-// Whether a whole call of the alignment gives the answer that a vector has, and leaves work and marks as it says; and whether the driver
-// numbers are those of a vector. tools/vectors/calls.rs and pins.rs say how a line is made. A vector that is not well formed does not agree.
+// Whether a whole call of the alignment gives the answer that a vector has, and leaves work and marks as it says. tools/vectors/calls.rs says
+// how a line is made. A vector that is not well formed does not agree.
 ghost use Prim.Native.Nat.{_≤_};
 use pose::Answer;
 use pose::Outcome;
@@ -166,8 +166,7 @@ fn length_at(words: &[u64], i: usize, room: usize) -> usize
     if v <= (room as u64) { v as usize } else { 0 }
 }
 
-// Sides, lengths, settings, frames; the answer, and how much is cleared.
-fn call_agrees(words: &[u64]) -> bool {
+pub fn agrees(words: &[u64]) -> bool {
     let t = length_at(words, 3, 4200);
     let i = length_at(words, 4, 4200);
     let k = length_at(words, 10, 50000);
@@ -190,38 +189,4 @@ fn call_agrees(words: &[u64]) -> bool {
         &mut work[..k],
         &mut marks[..m],
     )
-}
-
-// A driver number, plus 32768.
-fn raised(v: i16) -> u64 {
-    (v as i64 + 32768) as u64
-}
-
-// Number, theta, tx, ty; dx, dy, turn.
-fn pins_agree(words: &[u64]) -> bool {
-    let number = word(words, 1);
-    let theta = float(word(words, 2));
-    let tx = float(word(words, 3));
-    let ty = float(word(words, 4));
-    let pins = if number == 0 {
-        driver::pins_of(Answer::Posed {
-            theta,
-            tx,
-            ty,
-            rho: 0.0,
-        })
-    } else {
-        driver::pins_of(Answer::Refused(number as u8))
-    };
-    raised(pins.dx) == word(words, 5)
-        && raised(pins.dy) == word(words, 6)
-        && raised(pins.turn) == word(words, 7)
-}
-
-pub fn agrees(kind: u64, words: &[u64]) -> bool {
-    match kind {
-        26 => call_agrees(words),
-        27 => pins_agree(words),
-        _ => false,
-    }
 }
