@@ -4,9 +4,9 @@ use mathlib.Core.Path.{_≡_}
 use mathlib.Core.Bool.{true, false}
 use lib.Dec.{eqb, lit≤}
 use borrow.Author.Tests.{ltb-false, eqb-true}
-use Rattle.lists.proofs.Fold.{pick-true, pick-false}
+use Rattle.lists.proofs.Cases.{pick-true, pick-false}
 use Rattle.checks.specs.Checks.{checkOf}
-use Rattle.checks.proofs.Past.{passed-by, passed-on}
+use Rattle.lists.proofs.Cases.{passed, passed-by}
 use Rattle.aligner.specs.Aligner.{entryOf, knownOf, begunOf, refusedOf}
 use Rattle.aligner.specs.declared.EccAligner.{EccAligner}
 
@@ -16,7 +16,7 @@ unfolding entryOf
 taken t w h s e =
     let a = passed-by _ 2 _ (lit≤ tt) e in
     let b = passed-by _ 2 _ (lit≤ tt) (a .1) in
-    let c = passed-on _ _ (b .1) in
+    let c = passed _ _ 1 (lit≤ tt) (b .1) in
     let d = passed-by _ 13 _ (lit≤ tt) (c .1) in
     (ltb-false _ _ (a .0), ltb-false _ _ (b .0), eqb-true _ _ (c .0), ltb-false _ _ (d .0))
 

@@ -8,7 +8,7 @@ use lib.Dec.{leb, lit<}
 use lib.Pow.{pow-add, pow-mono}
 use lib.ListN.{getD}
 use lib.Ieee.{Float, nan}
-use Rattle.lists.proofs.Fold.{pick-both}
+use Rattle.lists.proofs.Cases.{pick-both}
 use Rattle.floats.specs.Bound.{Within, Bounded}
 use Rattle.floats.specs.F32.{_⊗_}
 use Rattle.floats.specs.Sums.{sumTo}

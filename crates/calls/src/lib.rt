@@ -1,5 +1,5 @@
-// Whether a whole call of the alignment gives the answer that a vector has, and leaves work and marks as it says. tools/vectors/calls.rs says
-// how a line is made. A vector that is not well formed does not agree.
+// Whether a whole call of the alignment gives the answer that a vector has, and leaves work and marks as it says; and whether the driver
+// numbers are those of a vector. tools/vectors/calls.rs and pins.rs say how a line is made. A vector that is not well formed does not agree.
 ghost use Prim.Native.Nat.{_≤_};
 use pose::Answer;
 use pose::Outcome;
@@ -166,7 +166,8 @@ fn length_at(words: &[u64], i: usize, room: usize) -> usize
     if v <= (room as u64) { v as usize } else { 0 }
 }
 
-pub fn agrees(words: &[u64]) -> bool {
+// Sides, lengths, settings, frames; the answer, and how much is cleared.
+fn call_agrees(words: &[u64]) -> bool {
     let t = length_at(words, 3, 4200);
     let i = length_at(words, 4, 4200);
     let k = length_at(words, 10, 50000);
@@ -189,4 +190,42 @@ pub fn agrees(words: &[u64]) -> bool {
         &mut work[..k],
         &mut marks[..m],
     )
+}
+
+// A driver number, told by whether it is below 0 and by its distance to 0.
+fn pin_agrees(v: i16, below: u64, size: u64) -> bool {
+    if v < 0 {
+        return below == 1 && text::size(v) == size;
+    }
+    below == 0 && text::size(v) == size
+}
+
+// The answer's number, theta, tx, ty.
+fn answer_at(words: &[u64]) -> Answer {
+    let number = word(words, 1);
+    if number == 0 {
+        return Answer::Posed {
+            theta: float(word(words, 2)),
+            tx: float(word(words, 3)),
+            ty: float(word(words, 4)),
+            rho: 0.0,
+        };
+    }
+    Answer::Refused((number % 256) as u8)
+}
+
+// The answer; dx, dy and turn.
+fn pins_agree(words: &[u64]) -> bool {
+    let pins = driver::pins_of(answer_at(words));
+    pin_agrees(pins.dx, word(words, 5), word(words, 6))
+        && pin_agrees(pins.dy, word(words, 7), word(words, 8))
+        && pin_agrees(pins.turn, word(words, 9), word(words, 10))
+}
+
+pub fn agrees(kind: u64, words: &[u64]) -> bool {
+    match kind {
+        26 => call_agrees(words),
+        27 => pins_agree(words),
+        _ => false,
+    }
 }

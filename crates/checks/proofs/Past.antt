@@ -1,27 +1,15 @@
 -- What holds past the checks: sides, lengths, settings and room are in order; and the number of pixels. Assumes nothing.
 use Prim.Native.Nat.{ℕ, _*_, _%_, _≤_}
-use mathlib.Core.Path.{_≡_, refl, ap, _∙_}
-use mathlib.Core.Bool.{Bool, true, false}
+use mathlib.Core.Path.{_≡_, ap, _∙_}
 use native.Mathlib.Omega.{arith}
 use lib.Dec.{ltb, eqb, lit≤}
 use borrow.Author.Tests.{ltb-false, eqb-true, eqb-false}
-use Rattle.lists.specs.Marked.{pick}
+use Rattle.lists.proofs.Cases.{passed, passed-by}
 use Rattle.settings.specs.Settings.{edgeOf}
 use Rattle.settings.specs.Sides.{resizedOf}
 use Rattle.settings.specs.declared.EccConfig.{EccConfig}
 use Rattle.settings.specs.declared.Sides.{Sides}
 use Rattle.checks.specs.Checks.{sizeOf, roomOf, settledOf, checkOf}
-
--- a test that gives a number above 0 did not do so, and the rest gave 0
-pub passed-by : (b : Bool) (v x : ℕ) → 1 ≤ v → pick b v x ≡ 0 → (b ≡ false) × (x ≡ 0)
-unfolding pick
-passed-by true v x h e = absurd (omega (arith, h, e))
-passed-by false v x h e = (refl, e)
-
-pub passed-on : (b : Bool) (x : ℕ) → pick b x 1 ≡ 0 → (b ≡ true) × (x ≡ 0)
-unfolding pick
-passed-on true x e = (refl, e)
-passed-on false x e = absurd (omega (arith, e))
 
 pub record Past (t i w h : ℕ) (cfg : EccConfig) (k m : ℕ) : Type 0 where
   pub width-some : 1 ≤ w
@@ -43,8 +31,8 @@ past t i w h cfg k m e =
     let b = passed-by _ 2 _ (lit≤ tt) (a .1) in
     let c = passed-by _ 1 _ (lit≤ tt) (b .1) in
     let d = passed-by _ 1 _ (lit≤ tt) (c .1) in
-    let f = passed-on _ _ (d .1) in
-    let g = passed-on _ _ (f .1) in
+    let f = passed _ _ 1 (lit≤ tt) (d .1) in
+    let g = passed _ _ 1 (lit≤ tt) (f .1) in
     let o = passed-by _ 1 _ (lit≤ tt) (g .1) in
     let p = passed-by _ 3 _ (lit≤ tt) (o .1) in
     let q = passed-by _ 3 _ (lit≤ tt) (p .1) in

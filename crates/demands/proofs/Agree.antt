@@ -8,7 +8,7 @@ use lib.ListN.{length, getD}
 use lib.Ieee.{Float, nan}
 use borrow.Author.Tests.{eq-eqb}
 use Rattle.lists.specs.Marked.{pick}
-use Rattle.lists.proofs.Fold.{pick-true, pick-agree}
+use Rattle.lists.proofs.Cases.{pick-true, pick-agree}
 use Rattle.lists.proofs.Grow.{tab-ext}
 use Rattle.floats.specs.F32.{_⊖_, _⊘_, f32, 0f}
 use Rattle.floats.proofs.Sums.{sum-agree}
@@ -44,7 +44,7 @@ module _ (xs ys : List Float) where
     unfolding centredOf
     centred-same =
         tab-ext n (λ i. pick (on marks i) (getD xs i nan ⊖ meanOf marks n xs) 0f) (λ i. pick (on marks i) (getD ys i nan ⊖ meanOf marks n ys) 0f)
-        (λ i l. pick-agree (on marks i) (on marks i) _ _ 0f 0f refl (λ e. ap₂ _⊖_ (alike i l e) mean-same) refl)
+        (λ i l. pick-agree (on marks i) (on marks i) _ _ 0f 0f refl (λ e. ap₂ _⊖_ (alike i l e) mean-same) (λ e. refl))
 
   module _ (input gx gy : List Float) (w h : ℕ) (eps : Float) where
     abbrev one : Pose → Float → Step

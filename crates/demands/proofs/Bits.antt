@@ -9,7 +9,7 @@ use lib.ListN.{length, getD}
 use lib.Ieee.{Float, binary32, nan, fits, ofBits, toBits}
 use lib.Ieee.Fits.{add-fits, ofInt-fits}
 use lib.Ieee.Bits.{ofBits-toBits, ofBits-fits}
-use Rattle.lists.proofs.Fold.{pick-both}
+use Rattle.lists.proofs.Cases.{pick-both}
 use Rattle.lists.proofs.Grow.{getD-tab, grid-all}
 use Rattle.floats.specs.F32.{f32}
 use Rattle.floats.specs.Sums.{sumTo}

@@ -13,7 +13,7 @@ use lib.Ieee.Fits.{and-l, and-r, and-i}
 use lib.Ieee.Scale.{finite}
 use lib.ListN.{length}
 use Rattle.lists.specs.Marked.{pick}
-use Rattle.lists.proofs.Fold.{pick-where, pick-both, pick-true, pick-false}
+use Rattle.lists.proofs.Cases.{pick-where, pick-both, pick-true, pick-false}
 use Rattle.floats.specs.Bound.{Within}
 use Rattle.settings.specs.declared.EccConfig.{EccConfig}
 use Rattle.checks.specs.Checks.{roomOf, settledOf, checkOf}

@@ -7,7 +7,7 @@ use native.Mathlib.Omega.{arith}
 use borrow.Author.Tests.{lt-ltb, le-ltb, eq-eqb, ne-eqb}
 use lib.Ieee.{binary32, ofBits}
 use lib.ListN.{length, length-append}
-use Rattle.lists.proofs.Fold.{pick-true, pick-false}
+use Rattle.lists.proofs.Cases.{pick-true, pick-false}
 use Rattle.settings.specs.declared.EccConfig.{EccConfig}
 use Rattle.records.specs.declared.Record.the-variants.{Settings, Frame, Large}
 use Rattle.records.specs.Reading.{halfAt, wordAt, choiceOf, configAt, settingsOf, frameOf, bodyOf, nextOf}

@@ -1,5 +1,7 @@
+pub mod Cases
 pub mod Grow
 pub mod Put
+pub mod Copy
 pub mod Fill
 pub mod Images
 pub mod Sets

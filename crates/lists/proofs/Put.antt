@@ -69,6 +69,10 @@ module _ {A : Type 0} (xs : List A) (a : ℕ) where
       let d : drop (a + length l + length m) (put xs a l) ≡ drop (a + length l + length m) xs = drop-put l (omega arith) (a + length l + length m) (omega arith) in
       rw (t, d, q) (simp append-assoc)
 
+-- what was left by a first put, and then a second right behind
+pub then-put : {A : Type 0} (xs : List A) (a : ℕ) (l : List A) (k : ℕ) (m : List A) {ys zs : List A} → ys ≡ put xs a l → zs ≡ put ys k m → k ≡ a + length l → k + length m ≤ length xs → zs ≡ put xs a (l ++ m)
+then-put {A} xs a l k m p q e h = q ∙ ap (λ (z : List A). put z k m) p ∙ ap (λ (j : ℕ). put (put xs a l) j m) e ∙ put-put xs a l m (omega arith)
+
 -- what was put, read back
 pub getD-put-in : {A : Type 0} (xs : List A) (a : ℕ) (l : List A) (k : ℕ) (d : A) → a + length l ≤ length xs → k < length l → getD (put xs a l) (a + k) d ≡ getD l k d
 unfolding put

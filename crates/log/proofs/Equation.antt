@@ -16,7 +16,7 @@ use Rattle.lines.specs.Lines.{lineOf}
 use Rattle.stream.specs.Stream.{pixelsOf}
 use Rattle.stream.specs.declared.End.the-variants.{Done}
 use Rattle.log.specs.Log.{line, last, Reader, past, from, logN, logFrom}
-use Rattle.log.proofs.Cases.{pick-rest, some}
+use Rattle.lists.proofs.Cases.{pick-rest, some}
 
 -- two readers agree on what is shorter than n
 abbrev Agree : ℕ → Reader → Reader → Type 0

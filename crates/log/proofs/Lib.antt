@@ -1,4 +1,3 @@
-pub mod Cases
 pub mod Equation
 pub mod Pieces
 pub mod Right

@@ -13,7 +13,7 @@ use Rattle.settings.specs.Settings.{defaultsOf}
 use Rattle.records.specs.Reading.{nextOf}
 use Rattle.records.specs.declared.Record.{Record}
 use Rattle.records.specs.declared.Record.the-variants.{More, Settings, Frame, Large, Other, Broken}
-use Rattle.records.proofs.Known.{either}
+use Rattle.lists.proofs.Cases.{either}
 use Rattle.stream.specs.Stream.{firstState, passedOf, overOf, actOf, stepOf, endOf}
 use Rattle.stream.specs.Memory.{storeOf}
 use Rattle.stream.specs.declared.Event.the-variants as event
@@ -23,7 +23,7 @@ use Rattle.stream.specs.declared.Step.{Step}
 use Rattle.stream.proofs.Bounded.{bounded}
 use Rattle.log.specs.Log.{Log, line, last, logOf}
 use Rattle.log.specs.Pieces.{Reads, quiet, prints, takes, ends, breaks, all, outcome}
-use Rattle.log.proofs.Cases.{some}
+use Rattle.lists.proofs.Cases.{some}
 use Rattle.log.proofs.Right.{step-right, end-right}
 use Rattle.log.proofs.Store.{any-store}
 

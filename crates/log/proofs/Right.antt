@@ -14,7 +14,8 @@ use Rattle.lists.specs.Marked.{pick}
 use Rattle.records.specs.Reading.{nextOf}
 use Rattle.records.specs.declared.Record.{Record}
 use Rattle.records.specs.declared.Record.the-variants.{More, Settings, Frame, Large, Other, Broken}
-use Rattle.records.proofs.Known.{either, Known, known}
+use Rattle.lists.proofs.Cases.{either}
+use Rattle.records.proofs.Known.{Known, known}
 use Rattle.records.proofs.Longer.{grow}
 use Rattle.lines.specs.Lines.{lineOf}
 use Rattle.stream.specs.Stream.{tooLarge, passedOf, overOf, actOf, stepOf, endOf}
@@ -26,7 +27,7 @@ use Rattle.stream.specs.declared.State.{State}
 use Rattle.stream.specs.declared.Step.{Step}
 use Rattle.log.specs.Log.{Log, line, last, past, from, logFrom}
 use Rattle.log.specs.Pieces.{outcome}
-use Rattle.log.proofs.Cases.{choose, some}
+use Rattle.lists.proofs.Cases.{choose, some}
 use Rattle.log.proofs.Equation.{log-is}
 
 ltb-shift : (a b c : ℕ) → ltb (a + b) (a + c) ≡ ltb b c

@@ -8,7 +8,7 @@ use borrow.Author.Tests.{eqb-true}
 use lib.Dec.{eqb, lit≤}
 use lib.ListN.{length, take, drop}
 use Rattle.lists.specs.Marked.{pick}
-use Rattle.lists.proofs.Fold.{pick-agree}
+use Rattle.lists.proofs.Cases.{pick-agree}
 use Rattle.lists.proofs.Put.{length-put, take-put-front}
 use Rattle.settings.specs.declared.EccConfig.{EccConfig}
 use Rattle.alignment.specs.Aligned.{alignedOf}
@@ -21,7 +21,7 @@ use Rattle.records.specs.declared.Record.the-variants.{More, Settings, Frame, L
 use Rattle.lines.specs.Lines.{lineOf}
 use Rattle.stream.specs.Stream.{pixelsOf}
 use Rattle.log.specs.Log.{line, Reader, past, from, logN, logFrom}
-use Rattle.log.proofs.Cases.{choose, passed}
+use Rattle.lists.proofs.Cases.{choose, passed}
 
 -- two stores that an aligner cannot tell apart: of one length, with the same previous frame, if there is one
 abbrev pub Alike : EccAligner → List ℕ → List ℕ → Type 0
@@ -45,7 +45,7 @@ module _ (k m : ℕ) (a : EccAligner) (frame : List ℕ) (w h : ℕ) (x y : List
   answer-alike : answerOf a frame w h x k m ≡ answerOf a frame w h y k m
   unfolding answerOf
   answer-alike =
-      pick-agree _ _ _ _ _ _ refl (λ e. ap (λ (t : List ℕ). alignedOf t frame w h (a .cfg) k m) (template-alike (eqb-true (knownOf a w h) 0 e))) refl
+      pick-agree _ _ _ _ _ _ refl (λ e. ap (λ (t : List ℕ). alignedOf t frame w h (a .cfg) k m) (template-alike (eqb-true (knownOf a w h) 0 e))) (λ e. refl)
 
   estimate-alike : estimateOf a frame w h x k m ≡ estimateOf a frame w h y k m
   unfolding estimateOf

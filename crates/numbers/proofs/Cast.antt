@@ -8,7 +8,7 @@ use lib.Dec.{T, lit<}
 use lib.IntN.{pos, negsuc}
 use lib.Ieee.{Float, nan, inf, fin, binary32, up, down, lt, fits, ofInt, ofBits, isNan, toUnsigned}
 use Rattle.lists.specs.Marked.{pick}
-use Rattle.lists.proofs.Fold.{pick-false, pick-both}
+use Rattle.lists.proofs.Cases.{pick-false, pick-both}
 use Rattle.floats.specs.F32.{f32, 0f}
 use Rattle.floats.proofs.Within.{Signed, round-signed}
 use Rattle.floats.proofs.Exactly.{whole-is}

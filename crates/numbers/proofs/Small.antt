@@ -4,7 +4,7 @@ use mathlib.Core.Path.{_≡_, refl, sym, ap, ap₂, _∙_, subst}
 use mathlib.Core.Bool.{true, false, true≢false}
 use mathlib.Core.Logic.{_⊎_, inl, inr, ⊎-elim}
 use Prim.Native.Nat.{ℕ, zero, suc, _+_, _-_, _*_, _/_, _%_, _^_, _≤_, _<_}
-use native.Mathlib.Nat.{zero-mul, zero-div, mul-one, mul-le-mul-right, le-of-mul-le-mul-right, div-lt-iff-lt-mul, div-le-of-le-mul, div-add-mod', div-one, eq-or-lt-of-le}
+use native.Mathlib.Nat.{zero-mul, zero-div, mul-one, mul-le-mul-right, le-of-mul-le-mul-right, div-lt-iff-lt-mul, div-le-of-le-mul, div-add-mod', eq-or-lt-of-le, min-eq-left}
 use native.Mathlib.Omega.{arith}
 use borrow.Author.Tests.{ltb-true, lt-ltb, le-ltb}
 use lib.Dec.{T, ltb, lit<, lit≤}
@@ -17,9 +17,9 @@ use Rattle.floats.specs.Bound.{Within, UpTo, AtLeast}
 use Rattle.floats.proofs.Within.{Signed, round-signed, round-within, within-finite, rep-down}
 use Rattle.floats.proofs.Exactly.{whole-is}
 use Rattle.floats.proofs.Signs.{up-to-of-le, up-to-more, round-at-least, sub-whole}
-use Rattle.floats.proofs.Casts.{cut}
 use Rattle.floats.proofs.Tests.{lt-values, below-zero, zero-is}
 use Rattle.numbers.specs.Numbers.{absOf, floorOf}
+use Rattle.numbers.proofs.Cast.{cast-floor}
 use Rattle.numbers.proofs.Whole.{part, large, floor-kept}
 
 -- ---- the index
@@ -32,14 +32,11 @@ part-le (fin false m e) k h = div-le-of-le-mul (down e) (omega arith)
 
 -- the floor of a value from 0 to 2 ^ 24, as a whole number, is its whole part; that of -0 is 0 too
 index-is : (x : Float) (k : ℕ) → k ≤ 2 ^ 24 → T (fits binary32 x) → UpTo x k 1 → toUnsigned 64 (floorOf x) ≡ part x
-unfolding floorOf ofInt
+unfolding toUnsigned
 index-is nan k K f h = absurd h
 index-is (inf s) k K f h = absurd h
-index-is (fin true m e) k K f h = subst (λ (x : Float). toUnsigned 64 (floorOf x) ≡ part x) (zero-is true m e f h) (unfold round toUnsigned in refl)
-index-is (fin false m e) k K f h =
-    let q = m * up e / down e in
-    let few : q ≤ k = part-le (fin false m e) k h in
-    cut (f32 q) false q 1 (lit< tt) (λ t. absurd t) (omega arith) (whole-is q (omega arith)) .is ∙ div-one q
+index-is (fin true m e) k K f h = cast-floor (fin true m e) f ∙ rw (h, zero-mul (up e), zero-div (down e))
+index-is (fin false m e) k K f h = cast-floor (fin false m e) f ∙ min-eq-left (omega (arith, part-le (fin false m e) k h))
 
 part-lt : (x : Float) (k : ℕ) → k ≤ 2 ^ 24 → UpTo x k 1 → lt x (f32 k) ≡ true → part x < k
 part-lt nan k K u h = absurd u

@@ -9,7 +9,7 @@ use lib.Ieee.{binary32, round}
 use lib.Ieee.Bits.{toBits-lt, ofBits-fits}
 use lib.Ieee.Fits.{round-fits}
 use lib.ListN.{length}
-use Rattle.records.proofs.Known.{either}
+use Rattle.lists.proofs.Cases.{either}
 use Rattle.scan.specs.Scan.{digitsAt}
 use Rattle.settings.specs.Settings.{defaultsOf}
 use Rattle.options.specs.declared.Value.{Value}

@@ -8,7 +8,7 @@ use lib.Ieee.{Float, le, lt}
 use lib.Ieee.Scale.{finite}
 use borrow.Author.Tests.{lt-ltb, le-ltb}
 use Rattle.lists.specs.Marked.{pick}
-use Rattle.lists.proofs.Fold.{pick-true, pick-false}
+use Rattle.lists.proofs.Cases.{pick-true, pick-false}
 use Rattle.marks.specs.Marks.{countOn}
 use Rattle.floats.specs.F32.{_⊖_, _⊗_, _⊘_}
 use Rattle.numbers.specs.Numbers.{absOf}

@@ -10,7 +10,7 @@ use borrow.Author.Tests.{lt-ltb, le-ltb}
 use lib.ListN.{length, take, drop, getD, set, length-set, length-drop}
 use lib.Seq.{length-take-le, take-all, take-suc, drop-cons}
 use Rattle.lists.specs.Lists.{put}
-use Rattle.lists.proofs.Fold.{pick-true, pick-false}
+use Rattle.lists.proofs.Cases.{pick-true, pick-false}
 use Rattle.lists.proofs.Put.{set-put, put-none}
 use Rattle.scan.specs.declared.Digits.{Digits}
 use Rattle.pgm.specs.declared.Found.{Found}

@@ -10,7 +10,7 @@ use lib.Dec.{ltb}
 use lib.ListN.{length}
 use Rattle.lists.specs.Lists.{put}
 use Rattle.lists.specs.Marked.{pick}
-use Rattle.lists.proofs.Fold.{pick-false}
+use Rattle.lists.proofs.Cases.{pick-false}
 use Rattle.lists.proofs.Put.{put-put}
 use Rattle.records.specs.declared.Record.the-variants.{Frame, Large}
 use Rattle.records.specs.Reading.{nextOf}

@@ -5,7 +5,7 @@ use mathlib.Core.Bool.{Bool, true, false, _&&_}
 use mathlib.Core.List.{List}
 use borrow.Author.Tests.{leb-true}
 use lib.Dec.{ltb, leb}
-use Rattle.records.proofs.Known.{either}
+use Rattle.lists.proofs.Cases.{either}
 use Rattle.pgm.specs.declared.Found.{Found}
 use Rattle.pgm.specs.declared.Found.the-variants.{Number, Nothing}
 use Rattle.pgm.specs.declared.Header.{Header}

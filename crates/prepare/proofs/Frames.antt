@@ -10,7 +10,7 @@ use lib.ListN.{length, getD}
 use lib.Ieee.{Float}
 use borrow.Author.Tests.{eq-eqb, le-leb, lt-leb, eqb-true}
 use Rattle.lists.proofs.Grow.{length-tab, length-grid}
-use Rattle.lists.proofs.Fold.{pick-true, pick-false, pick-both}
+use Rattle.lists.proofs.Cases.{pick-true, pick-false, pick-both}
 use Rattle.floats.specs.F32.{f32}
 use Rattle.resize.specs.Resize.{resizeOf}
 use Rattle.blur.specs.Blur.{rowsOf, columnsOf, blurOf}

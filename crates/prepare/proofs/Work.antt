@@ -10,7 +10,7 @@ use lib.Ieee.{Float}
 use borrow.Author.Tests.{eq-eqb, ne-eqb, eqb-true, eqb-false}
 use Rattle.lists.specs.Lists.{image, setImage}
 use Rattle.lists.proofs.Fill.{row-in}
-use Rattle.lists.proofs.Fold.{pick-true, pick-false, pick-both}
+use Rattle.lists.proofs.Cases.{pick-true, pick-false, pick-both}
 use Rattle.lists.proofs.Images.{image-set, image-set-other, length-setImage, drop-set}
 use Rattle.blur.specs.Blur.{rowsOf, columnsOf}
 use Rattle.prepare.specs.Prepared.{scaledOf, preparedOf, preparedIn}

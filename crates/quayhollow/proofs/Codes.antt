@@ -9,7 +9,7 @@ use lib.Dec.{T, leb, lit≤, leb→le}
 use lib.Ieee.{Float}
 use lib.Ieee.Fits.{and-r}
 use lib.ListN.{length}
-use Rattle.lists.proofs.Fold.{pick-where, pick-both}
+use Rattle.lists.proofs.Cases.{pick-where, pick-both}
 use Rattle.settings.specs.declared.EccConfig.{EccConfig}
 use Rattle.checks.proofs.Past.{past}
 use Rattle.pose.specs.Pose.{numberOf}

@@ -7,7 +7,7 @@ use native.Mathlib.Omega.{arith}
 use borrow.Author.Tests.{le-ltb, ne-eqb, eqb-true}
 use lib.Dec.{eqb}
 use lib.Ieee.{Float}
-use Rattle.lists.proofs.Fold.{pick-true, pick-false}
+use Rattle.lists.proofs.Cases.{pick-true, pick-false}
 use Rattle.settings.specs.Settings.{edgeOf, lengthOf}
 use Rattle.settings.specs.Sides.{resizedOf}
 use Rattle.checks.specs.Checks.{sizeOf, roomOf}

@@ -9,7 +9,7 @@ use borrow.Author.Tests.{le-ltb}
 use lib.Dec.{eqb, lit≤}
 use lib.ListN.{length, getD}
 use Rattle.lists.specs.Lists.{put}
-use Rattle.lists.proofs.Fold.{pick-true, pick-false, pick-both}
+use Rattle.lists.proofs.Cases.{pick-true, pick-false, pick-both}
 use Rattle.lists.proofs.Put.{length-put, getD-put-in}
 use Rattle.settings.specs.declared.EccConfig.{EccConfig}
 use Rattle.aligner.specs.Aligner.{freshOf, entryOf, estimateOf}

@@ -7,7 +7,7 @@ use lib.ListN.{length, take, drop, getD, set, length-drop}
 use lib.Seq.{length-take-le, getD-drop}
 use Rattle.lists.specs.Lists.{put}
 use Rattle.lists.proofs.Put.{getD-put-after}
-use Rattle.aligner.proofs.Copy.{copy-more}
+use Rattle.lists.proofs.Copy.{copy-more}
 
 -- the byte at + i has not been written over
 pub slide-more : (xs ys : List ℕ) (at i : ℕ) → at + i < length xs → ys ≡ put xs 0 (take i (drop at xs)) → set ys i (getD ys (at + i) 0) ≡ put xs 0 (take (i + 1) (drop at xs))

@@ -1,6 +1,4 @@
 -- What the bytes at hand are known by: a record that is read lies within them, and where more are wanted, they are few. Assumes nothing.
-use mathlib.Core.Path.{_≡_, refl}
-use mathlib.Core.Bool.{Bool, true, false}
 use mathlib.Core.List.{List}
 use Prim.Native.Nat.{ℕ, zero-le, _+_, _-_, _≤_, _<_}
 use native.Mathlib.Omega.{arith}
@@ -8,15 +6,10 @@ use borrow.Author.Tests.{ltb-true, ltb-false}
 use lib.Dec.{ltb, eqb}
 use lib.ListN.{length}
 use Rattle.lists.specs.Marked.{pick}
+use Rattle.lists.proofs.Cases.{either}
 use Rattle.records.specs.declared.Record.{Record}
 use Rattle.records.specs.declared.Record.the-variants.{More, Settings, Frame, Large, Other, Broken}
 use Rattle.records.specs.Reading.{halfAt, wordAt, configAt, settingsOf, frameOf, bodyOf, nextOf, sizeOf}
-
--- by the two cases of a test
-pub either : {A : Type 0} (P : A → Type 0) (b : Bool) (x y : A) → (b ≡ true → P x) → (b ≡ false → P y) → P (pick b x y)
-unfolding pick
-either P true x y f g = f refl
-either P false x y f g = g refl
 
 -- what each record says of the bytes at whose start it stands
 abbrev pub Known : List ℕ → Record → Type 0

@@ -7,8 +7,8 @@ use libc::STDOUT_FILENO;
 use vectors::Line;
 
 fn agrees(kind: u64, words: &[u64]) -> bool {
-    if kind == 26 {
-        return calls::agrees(words);
+    if kind > 25 {
+        return calls::agrees(kind, words);
     }
     vectors::agrees(words)
 }
@@ -99,6 +99,7 @@ fn report_passes(seen: &[u64], agreed: &[u64]) {
     report(b"centered_stats_in_place", 24, seen, agreed);
     report(b"try_inverse", 25, seen, agreed);
     report(b"whole calls", 26, seen, agreed);
+    report(b"driver numbers", 27, seen, agreed);
 }
 
 fn main() {

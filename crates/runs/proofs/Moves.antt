@@ -8,7 +8,7 @@ use lib.Ieee.{Float}
 use lib.Ieee.Fits.{and-l, and-r}
 use lib.Ieee.Scale.{finite}
 use Rattle.lists.specs.Lists.{image}
-use Rattle.lists.proofs.Fold.{pick-where, pick-both}
+use Rattle.lists.proofs.Cases.{pick-where, pick-both}
 use Rattle.floats.specs.F32.{_⊕_}
 use Rattle.floats.specs.Bound.{Within}
 use Rattle.pose.specs.declared.Pose.{Pose}

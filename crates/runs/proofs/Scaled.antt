@@ -3,7 +3,7 @@ use mathlib.Core.Path.{_≡_, sym, _∙_}
 use mathlib.Core.Bool.{true, false}
 use lib.Ieee.{Float}
 use lib.Ieee.Scale.{finite}
-use Rattle.lists.proofs.Fold.{pick-true, pick-false}
+use Rattle.lists.proofs.Cases.{pick-true, pick-false}
 use Rattle.floats.specs.F32.{_⊘_}
 use Rattle.pose.specs.declared.Pose.{Pose}
 use Rattle.pose.specs.declared.Answer.the-variants.{Posed, Refused}

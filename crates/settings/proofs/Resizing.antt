@@ -9,7 +9,7 @@ use native.Mathlib.Omega.{arith}
 use lib.Dec.{ltb, lit<, lit≤}
 use lib.Ieee.{binary32, toUnsigned}
 use borrow.Author.Tests.{lt-ltb, le-ltb}
-use Rattle.lists.proofs.Fold.{pick-true, pick-false}
+use Rattle.lists.proofs.Cases.{pick-true, pick-false}
 use Rattle.floats.specs.Bound.{UpTo}
 use Rattle.floats.specs.F32.{_⊘_, f32}
 use Rattle.floats.proofs.Exactly.{whole-is, div-value}

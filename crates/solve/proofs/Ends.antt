@@ -11,7 +11,7 @@ use lib.Ieee.Scale.{finite}
 use Rattle.lists.specs.Lists.{image, setImage}
 use Rattle.lists.specs.Marked.{pick}
 use Rattle.lists.proofs.Grow.{length-grid}
-use Rattle.lists.proofs.Fold.{pick-true, pick-false}
+use Rattle.lists.proofs.Cases.{pick-true, pick-false}
 use Rattle.lists.proofs.Images.{image-set, image-set-other}
 use Rattle.floats.specs.F32.{_⊖_, _⊗_, _⊘_, 0f}
 use Rattle.stats.specs.declared.Stats.{Stats}

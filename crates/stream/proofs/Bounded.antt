@@ -9,7 +9,8 @@ use lib.ListN.{length}
 use Rattle.records.specs.Reading.{nextOf}
 use Rattle.records.specs.declared.Record.{Record}
 use Rattle.records.specs.declared.Record.the-variants.{More, Settings, Frame, Large, Other, Broken}
-use Rattle.records.proofs.Known.{either, Known, known}
+use Rattle.lists.proofs.Cases.{either}
+use Rattle.records.proofs.Known.{Known, known}
 use Rattle.stream.specs.Stream.{passedOf, overOf, actOf, stepOf, Bounded}
 use Rattle.stream.specs.declared.Event.the-variants as event
 use Rattle.stream.specs.declared.State.{State}

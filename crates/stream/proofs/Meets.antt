@@ -6,7 +6,7 @@ use mathlib.Core.List.{List}
 use lib.Dec.{eqb}
 use lib.Ieee.{Float}
 use lib.ListN.{length}
-use Rattle.lists.proofs.Fold.{pick-true, pick-false}
+use Rattle.lists.proofs.Cases.{pick-true, pick-false}
 use Rattle.records.specs.Reading.{nextOf}
 use Rattle.records.specs.declared.Record.{Record}
 use Rattle.stream.specs.Memory.{storeBy, workBy, marksBy, storeOf, workOf, marksOf}

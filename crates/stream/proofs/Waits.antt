@@ -10,7 +10,7 @@ use Rattle.lists.specs.Marked.{pick}
 use Rattle.records.specs.Reading.{nextOf}
 use Rattle.records.specs.declared.Record.{Record}
 use Rattle.records.specs.declared.Record.the-variants.{More, Settings, Frame, Large, Other, Broken}
-use Rattle.records.proofs.Known.{either}
+use Rattle.lists.proofs.Cases.{either}
 use Rattle.stream.specs.Memory.{atFrame, storeBy, storeOf}
 use Rattle.stream.specs.Stream.{passedOf, overOf, actOf, stepOf}
 use Rattle.stream.specs.declared.Event.the-variants as event

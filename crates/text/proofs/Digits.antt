@@ -11,7 +11,7 @@ use lib.IntN.{ℤ, pos, negsuc}
 use lib.ListN.{length, length-append}
 use lib.Signed.{ltZ}
 use Rattle.io.specs.Digits.{glyph, digits, Fewest}
-use Rattle.lists.proofs.Fold.{pick-true, pick-false}
+use Rattle.lists.proofs.Cases.{pick-true, pick-false}
 use Rattle.text.specs.Text.{digitsOf, decimalOf, sizeOf, signedOf}
 
 -- ---- one digit, or more

@@ -8,7 +8,7 @@ use lib.IntN.{ℤ}
 use lib.ListN.{length, length-append}
 use Rattle.lists.specs.Lists.{put}
 use Rattle.lists.specs.Marked.{pick}
-use Rattle.lists.proofs.Put.{put-put}
+use Rattle.lists.proofs.Put.{then-put}
 use Rattle.text.specs.Text.{decimalOf, signedOf, lineOf, frameLine, endWord, endLine, Wrote}
 
 module _ {xs ys zs : List ℕ} {a m n b r : ℕ} {l k : List ℕ} where
@@ -22,11 +22,7 @@ module _ {xs ys zs : List ℕ} {a m n b r : ℕ} {l k : List ℕ} where
       record {
         next = omega arith;
         bound = omega arith;
-        text =
-            w .text
-            ∙ ap (λ (z : List ℕ). put z b k) (v .text)
-            ∙ ap (λ (z : ℕ). put (put xs a l) z k) i
-            ∙ put-put xs a l k (omega arith);
+        text = then-put xs a l b k (v .text) (w .text) i (omega arith);
       }
 
 -- the same text in other words, with another bound

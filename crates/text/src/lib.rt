@@ -49,7 +49,7 @@ fn put_decimal(out: &mut [u8], at: usize, n: u64, end: u8) -> usize
 }
 
 // The distance of n to 0.
-fn size(n: i16) -> u64
+pub fn size(n: i16) -> u64
     ensures { λ r. ⌜ (r ≡ sizeOf n) × (r ≤ 32768) ⌝ }
 {
     let m = n as i64;

@@ -11,7 +11,7 @@ use lib.Ieee.Fits.{and-l, and-r, add-fits}
 use lib.Ieee.Back.{unsigned-back}
 use Rattle.lists.specs.Lists.{image}
 use Rattle.lists.specs.Marked.{pick}
-use Rattle.lists.proofs.Fold.{pick-true}
+use Rattle.lists.proofs.Cases.{pick-true}
 use Rattle.lists.proofs.Images.{getD-image}
 use Rattle.floats.specs.F32.{_⊕_, _⊗_, f32, 0f}
 use Rattle.floats.proofs.Exactly.{add-whole, mul-whole}

@@ -11,7 +11,7 @@ use lib.ListN.{length, getD, set, length-set}
 use lib.Seq.{getD-set-same, getD-set-other}
 use lib.Ieee.{Float, nan}
 use Rattle.lists.specs.Lists.{tab, put}
-use Rattle.lists.proofs.Fold.{pick-both}
+use Rattle.lists.proofs.Cases.{pick-both}
 use Rattle.lists.proofs.Fill.{fill-none, fill-more}
 use Rattle.lists.proofs.Grow.{getD-grid}
 use Rattle.marks.specs.Marks.{countOn}

@@ -10,7 +10,7 @@ use lib.ListN.{length, take, getD, set, length-set}
 use lib.Ieee.{Float, nan}
 use Rattle.lists.specs.Lists.{tab, image}
 use Rattle.lists.specs.Marked.{pick}
-use Rattle.lists.proofs.Fold.{pick-agree}
+use Rattle.lists.proofs.Cases.{pick-agree}
 use Rattle.lists.proofs.Fill.{Spaced, fills-none, fills-more, take-fills, getD-fill}
 use Rattle.lists.proofs.Grow.{tab-ext}
 use Rattle.marks.specs.Marks.{on}
@@ -92,5 +92,5 @@ module _ (map : Map) (w h y : ℕ) (ms spots : List ℕ) (across down : List Flo
       let f : ℕ → ℕ → Float = readOf n w (y * w) ms′ spots across down xs in
       let g : ℕ → ℕ → Float = λ k x. pixelOf (image n k xs) map w h x y in
       let same : (k : ℕ) → tab w (f k) ≡ tab w (g k) =
-      λ k. tab-ext w (f k) (g k) (λ x q. pick-agree _ _ _ _ 0f 0f (on-is x q) (λ m. sample-is (image n k xs) w _ _ _ _ _ (place-at x q m)) refl) in
+      λ k. tab-ext w (f k) (g k) (λ x q. pick-agree _ _ _ _ 0f 0f (on-is x q) (λ m. sample-is (image n k xs) w _ _ _ _ _ (place-at x q m)) (λ m. refl)) in
       record { images = rw (same 0, same 1, same 2) at e; marked = p .marked; counted = p .counted }

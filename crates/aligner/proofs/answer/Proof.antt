@@ -6,7 +6,7 @@ use borrow.Author.Tests.{eq-eqb, ne-eqb}
 use denote.Ref.{now}
 use lib.ListN.{length}
 use lib.Seq.{length-take-le}
-use Rattle.lists.proofs.Fold.{pick-true, pick-false}
+use Rattle.lists.proofs.Cases.{pick-true, pick-false}
 use Rattle.pose.specs.declared.Answer.the-variants.{Refused}
 use Rattle.alignment.specs.Aligned.{workAfter, marksAfter}
 use Rattle.aligner.specs.Aligner.{answerOf}

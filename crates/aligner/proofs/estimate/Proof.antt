@@ -7,7 +7,7 @@ use borrow.Author.Needs.{needs}
 use borrow.Author.Tests.{eq-eqb, ne-eqb}
 use denote.Ref.{now}
 use lib.ListN.{length}
-use Rattle.lists.proofs.Fold.{pick-true, pick-false}
+use Rattle.lists.proofs.Cases.{pick-true, pick-false}
 use Rattle.pose.specs.declared.Answer.the-variants.{Refused}
 use Rattle.pose.specs.declared.Outcome.{Outcome}
 use Rattle.alignment.specs.Aligned.{workAfter, marksAfter}

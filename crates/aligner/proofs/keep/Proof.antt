@@ -6,7 +6,7 @@ use borrow.Author.Needs.{needs}
 use denote.Ref.{now}
 use lib.ListN.{length, take, length-set}
 use Rattle.lists.specs.Lists.{put}
-use Rattle.aligner.proofs.Copy.{copy-none, copy-more, copy-all}
+use Rattle.lists.proofs.Copy.{copy-none, copy-more, copy-all}
 use Rattle.aligner.proofs.keep.Statement.{statement}
 use Rattle.aligner.proofs.keep.Tie as tie
 

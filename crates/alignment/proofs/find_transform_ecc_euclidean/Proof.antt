@@ -5,7 +5,7 @@ use borrow.Author.Needs.{needs}
 use borrow.Author.Tests.{eq-eqb, ne-eqb}
 use denote.Ref.{now}
 use Rattle.lists.specs.Lists.{tab, put}
-use Rattle.lists.proofs.Fold.{pick-true, pick-false}
+use Rattle.lists.proofs.Cases.{pick-true, pick-false}
 use Rattle.floats.specs.F32.{0f}
 use Rattle.settings.specs.Sides.{resizedOf}
 use Rattle.settings.specs.declared.Sides.{Sides}

@@ -1,7 +1,7 @@
 -- `boundary::config` meets its contract: edge 0 is none. Assumes nothing.
 use mathlib.Core.Path.{sym, ap}
 use borrow.Author.Tests.{eq-eqb, ne-eqb}
-use Rattle.lists.proofs.Fold.{pick-true, pick-false}
+use Rattle.lists.proofs.Cases.{pick-true, pick-false}
 use Rattle.settings.specs.declared.LongEdge.{LongEdge}
 use Rattle.boundary.specs.Boundary.{configOf}
 use Rattle.boundary.proofs.config.Statement.{statement}

@@ -1,7 +1,7 @@
 -- `boundary::handed` meets its contract. Assumes nothing.
 use mathlib.Core.Path.{sym}
 use borrow.Author.Tests.{eq-eqb, ne-eqb}
-use Rattle.lists.proofs.Fold.{pick-true, pick-false}
+use Rattle.lists.proofs.Cases.{pick-true, pick-false}
 use Rattle.boundary.specs.Boundary.{handedOf}
 use Rattle.boundary.proofs.handed.Statement.{statement}
 use Rattle.boundary.proofs.handed.Tie as tie

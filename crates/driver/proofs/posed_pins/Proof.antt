@@ -12,7 +12,7 @@ use lib.Ieee.Scale.{finite}
 use mir.Syntax.{w16}
 use mir.Val.{toZ, ofZ}
 use mir.ValLaws.{toZ-ofZ}
-use Rattle.lists.proofs.Fold.{pick-true, pick-false}
+use Rattle.lists.proofs.Cases.{pick-true, pick-false}
 use Rattle.driver.specs.Pins.{pinOf, stillOf, posedOf}
 use Rattle.driver.proofs.Scaled.{times-number, pin-times}
 use Rattle.driver.proofs.posed_pins.Statement.{statement}

@@ -4,7 +4,7 @@ use borrow.Author.Needs.{needs}
 use denote.Ref.{now}
 use lib.ListN.{length-set}
 use Rattle.encode.specs.Bytes.{halfBytes}
-use Rattle.encode.proofs.Pieces.{two-put}
+use Rattle.lists.proofs.Copy.{stored-is}
 use Rattle.encode.proofs.put_half.Statement.{statement}
 use Rattle.encode.proofs.put_half.Tie as tie
 
@@ -28,7 +28,7 @@ same-length c = search needs
 
 returns : tie.Need-returns
 unfolding halfBytes
-returns c = two-put (now (c .args .out)) (c .args .at) _ _ (c .pre)
+returns c = stored-is (now (c .args .out)) (c .args .at) _ (c .pre)
 
 pub put-half-spec : {M : Type 1} → statement M
 put-half-spec = tie.close (tie.spec cast-out slice-write-out cast-out-2 add-out slice-write-out-2 same-length returns)

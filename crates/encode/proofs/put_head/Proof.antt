@@ -7,7 +7,8 @@ use mathlib.Core.Path.{ap, _∙_}
 use mathlib.Core.List.{_++_, append-assoc}
 use Rattle.lists.specs.Lists.{put}
 use Rattle.encode.specs.Bytes.{halfBytes, wordBytes, startBytes, headBytes}
-use Rattle.encode.proofs.Pieces.{then-put, area}
+use Rattle.lists.proofs.Put.{then-put}
+use Rattle.encode.proofs.Pieces.{area}
 use Rattle.encode.proofs.put_head.Statement.{statement}
 use Rattle.encode.proofs.put_head.Tie as tie
 

@@ -6,7 +6,7 @@ use mathlib.Core.Path.{ap, _∙_}
 use mathlib.Core.List.{_++_, append-assoc}
 use Rattle.lists.specs.Lists.{put}
 use Rattle.encode.specs.Bytes.{halfBytes, wordBytes, startBytes, settingsBytes}
-use Rattle.encode.proofs.Pieces.{then-put}
+use Rattle.lists.proofs.Put.{then-put}
 use Rattle.encode.proofs.put_settings.Statement.{statement}
 use Rattle.encode.proofs.put_settings.Tie as tie
 

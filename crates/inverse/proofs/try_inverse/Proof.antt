@@ -2,7 +2,7 @@
 use borrow.Author.Needs.{needs}
 use mathlib.Core.Path.{sym, ap, _∙_}
 use Rattle.inverse.specs.declared.Inverse.{Inverse}
-use Rattle.lists.proofs.Fold.{pick-true, pick-false}
+use Rattle.lists.proofs.Cases.{pick-true, pick-false}
 use Rattle.inverse.specs.Inverse.{inverseOf}
 use Rattle.inverse.proofs.try_inverse.Statement.{statement}
 use Rattle.inverse.proofs.try_inverse.Tie as tie

@@ -5,7 +5,7 @@ use borrow.Author.Needs.{needs}
 use borrow.Author.Tests.{eq-eqb, ne-eqb}
 use denote.Ref.{now}
 use lib.ListN.{length}
-use Rattle.lists.proofs.Fold.{pick-true, pick-false}
+use Rattle.lists.proofs.Cases.{pick-true, pick-false}
 use Rattle.scan.specs.declared.Digits.{Digits}
 use Rattle.options.specs.Words.{ratioOf, behindOf}
 use Rattle.options.proofs.behind.Statement.{statement}

@@ -5,7 +5,7 @@ use borrow.Author.Needs.{needs}
 use borrow.Author.Tests.{lt-ltb, le-ltb}
 use denote.Ref.{now}
 use lib.Dec.{ltb}
-use Rattle.lists.proofs.Fold.{pick-true, pick-false}
+use Rattle.lists.proofs.Cases.{pick-true, pick-false}
 use Rattle.scan.specs.declared.Digits.{Digits}
 use Rattle.scan.specs.Scan.{digitsAt}
 use Rattle.scan.proofs.Bounds.{next-within, value-held}

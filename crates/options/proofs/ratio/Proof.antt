@@ -4,7 +4,7 @@ use native.Mathlib.Omega.{arith}
 use borrow.Author.Needs.{needs}
 use borrow.Author.Tests.{lt-leb, le-leb}
 use lib.Ieee.{binary32, toBits}
-use Rattle.lists.proofs.Fold.{pick-true, pick-false}
+use Rattle.lists.proofs.Cases.{pick-true, pick-false}
 use Rattle.options.specs.declared.Value.the-variants.{Is}
 use Rattle.options.specs.Words.{ratioOf}
 use Rattle.options.proofs.Tens.{quotient}

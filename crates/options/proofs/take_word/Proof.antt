@@ -1,7 +1,7 @@
 -- `options::take_word` asks for each beginning in turn. Assumes nothing.
 use mathlib.Core.Path.{sym, _∙_}
 use borrow.Author.Needs.{needs}
-use Rattle.lists.proofs.Fold.{pick-true, pick-false}
+use Rattle.lists.proofs.Cases.{pick-true, pick-false}
 use Rattle.options.specs.Words.{begins, takenOf}
 use Rattle.options.proofs.take_word.Statement.{statement}
 use Rattle.options.proofs.take_word.Tie as tie

@@ -3,7 +3,7 @@ use mathlib.Core.Path.{sym, ap, _∙_}
 use borrow.Author.Needs.{needs}
 use borrow.Author.Tests.{not-true, not-false}
 use denote.Ref.{now}
-use Rattle.lists.proofs.Fold.{pick-true, pick-false}
+use Rattle.lists.proofs.Cases.{pick-true, pick-false}
 use Rattle.scan.specs.Scan.{digit}
 use Rattle.pgm.specs.Pgm.{digitsFrom, numberAt}
 use Rattle.pgm.specs.declared.Found.the-variants.{Number}

@@ -8,7 +8,7 @@ use borrow.Author.Tests.{eq-eqb, ne-eqb, lt-ltb, le-ltb}
 use denote.Ref.{now}
 use lib.ListN.{length}
 use Rattle.lists.specs.Lists.{put}
-use Rattle.lists.proofs.Fold.{pick-true, pick-false}
+use Rattle.lists.proofs.Cases.{pick-true, pick-false}
 use Rattle.lists.proofs.Put.{put-none}
 use Rattle.encode.proofs.Pieces.{area}
 use Rattle.pgm.specs.declared.Made.the-variants.{Refused}

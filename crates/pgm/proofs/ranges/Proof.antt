@@ -2,7 +2,7 @@
 use mathlib.Core.Path.{sym, _∙_}
 use borrow.Author.Needs.{needs}
 use borrow.Author.Tests.{not-true, not-false}
-use Rattle.lists.proofs.Fold.{pick-true, pick-false}
+use Rattle.lists.proofs.Cases.{pick-true, pick-false}
 use Rattle.pgm.specs.Pgm.{rangesOf}
 use Rattle.pgm.proofs.ranges.Statement.{statement}
 use Rattle.pgm.proofs.ranges.Tie as tie

@@ -2,7 +2,7 @@
 use mathlib.Core.Path.{sym, _∙_}
 use borrow.Author.Needs.{needs}
 use borrow.Author.Tests.{not-true, not-false}
-use Rattle.lists.proofs.Fold.{pick-true, pick-false}
+use Rattle.lists.proofs.Cases.{pick-true, pick-false}
 use Rattle.pgm.specs.Pgm.{magic, headerOf}
 use Rattle.pgm.proofs.Founds.{no-number, a-number}
 use Rattle.pgm.proofs.read_header.Statement.{statement}

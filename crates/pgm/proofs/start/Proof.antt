@@ -4,7 +4,7 @@ use native.Mathlib.Omega.{arith}
 use borrow.Author.Needs.{needs}
 use borrow.Author.Tests.{eq-eqb, ne-eqb, not-true, not-false}
 use denote.Ref.{now}
-use Rattle.lists.proofs.Fold.{pick-true, pick-false}
+use Rattle.lists.proofs.Cases.{pick-true, pick-false}
 use Rattle.pgm.specs.Pgm.{blank, kind, startOf}
 use Rattle.pgm.proofs.Tests.{blank-within}
 use Rattle.pgm.proofs.start.Statement.{statement}

@@ -1,7 +1,7 @@
 -- `pose::posed_matrix` meets its contract. Assumes nothing.
 use borrow.Author.Needs.{needs}
 use mathlib.Core.Path.{sym, _∙_}
-use Rattle.lists.proofs.Fold.{pick-true, pick-false}
+use Rattle.lists.proofs.Cases.{pick-true, pick-false}
 use Rattle.pose.specs.Pose.{posedMatrix}
 use Rattle.pose.proofs.Tests.{pose-theta}
 use Rattle.pose.proofs.posed_matrix.Statement.{statement}

@@ -5,7 +5,7 @@ use native.Mathlib.Omega.{arith}
 use borrow.Author.Tests.{eq-eqb, ne-eqb}
 use borrow.Author.Needs.{needs}
 use lib.ListN.{length-set}
-use Rattle.lists.proofs.Fold.{pick-true, pick-false}
+use Rattle.lists.proofs.Cases.{pick-true, pick-false}
 use Rattle.quayhollow.specs.State.{stateAfter}
 use Rattle.boundary.proofs.Front.{stored-front, short-front}
 use Rattle.quayhollow.proofs.put_state.Statement.{statement}

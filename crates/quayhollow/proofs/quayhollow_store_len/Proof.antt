@@ -1,7 +1,7 @@
 -- `quayhollow::quayhollow_store_len` meets its contract. Assumes nothing.
 use mathlib.Core.Path.{sym, _∙_}
 use borrow.Author.Tests.{lt-ltb, le-ltb}
-use Rattle.lists.proofs.Fold.{pick-true, pick-false}
+use Rattle.lists.proofs.Cases.{pick-true, pick-false}
 use Rattle.lists.proofs.Every.{sides-fit}
 use Rattle.quayhollow.specs.State.{storeOf}
 use Rattle.quayhollow.proofs.quayhollow_store_len.Statement.{statement}

@@ -2,7 +2,7 @@
 use mathlib.Core.Path.{sym, _∙_}
 use borrow.Author.Tests.{lt-ltb, le-ltb}
 use borrow.Author.Needs.{needs}
-use Rattle.lists.proofs.Fold.{pick-true, pick-false}
+use Rattle.lists.proofs.Cases.{pick-true, pick-false}
 use Rattle.quayhollow.specs.State.{rememberedOf}
 use Rattle.quayhollow.proofs.remembered.Statement.{statement}
 use Rattle.quayhollow.proofs.remembered.Tie as tie

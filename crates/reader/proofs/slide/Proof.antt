@@ -6,7 +6,7 @@ use borrow.Author.Needs.{needs}
 use denote.Ref.{now}
 use lib.ListN.{length, take, drop, length-set}
 use Rattle.lists.specs.Lists.{put}
-use Rattle.aligner.proofs.Copy.{copy-none}
+use Rattle.lists.proofs.Copy.{copy-none}
 use Rattle.reader.proofs.Slides.{slide-more}
 use Rattle.reader.proofs.slide.Statement.{statement}
 use Rattle.reader.proofs.slide.Tie as tie

@@ -1,7 +1,7 @@
 -- `records::choice` takes 0 for none. Assumes nothing.
 use mathlib.Core.Path.{sym}
 use borrow.Author.Tests.{eq-eqb, ne-eqb}
-use Rattle.lists.proofs.Fold.{pick-true, pick-false}
+use Rattle.lists.proofs.Cases.{pick-true, pick-false}
 use Rattle.records.specs.Reading.{choiceOf}
 use Rattle.records.proofs.choice.Statement.{statement}
 use Rattle.records.proofs.choice.Tie as tie

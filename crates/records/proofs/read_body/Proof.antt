@@ -2,7 +2,7 @@
 use mathlib.Core.Path.{sym, _∙_}
 use borrow.Author.Needs.{needs}
 use borrow.Author.Tests.{eq-eqb, ne-eqb}
-use Rattle.lists.proofs.Fold.{pick-true, pick-false}
+use Rattle.lists.proofs.Cases.{pick-true, pick-false}
 use Rattle.records.specs.Reading.{bodyOf}
 use Rattle.records.proofs.read_body.Statement.{statement}
 use Rattle.records.proofs.read_body.Tie as tie

@@ -2,7 +2,7 @@
 use mathlib.Core.Path.{sym, ap, _∙_}
 use borrow.Author.Needs.{needs}
 use borrow.Author.Tests.{lt-ltb, le-ltb, eq-eqb, ne-eqb}
-use Rattle.lists.proofs.Fold.{pick-true, pick-false}
+use Rattle.lists.proofs.Cases.{pick-true, pick-false}
 use Rattle.records.specs.declared.Record.the-variants.{Settings}
 use Rattle.records.specs.Reading.{settingsOf}
 use Rattle.records.proofs.read_settings.Statement.{statement}

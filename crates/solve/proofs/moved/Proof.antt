@@ -1,7 +1,7 @@
 -- `solve::moved` meets its contract. Assumes nothing.
 use mathlib.Core.Path.{sym, _∙_}
 use borrow.Author.Needs.{needs}
-use Rattle.lists.proofs.Fold.{pick-true, pick-false}
+use Rattle.lists.proofs.Cases.{pick-true, pick-false}
 use Rattle.solve.specs.Solve.{movedOf}
 use Rattle.solve.proofs.moved.Statement.{statement}
 use Rattle.solve.proofs.moved.Tie as tie

@@ -4,7 +4,7 @@ use mathlib.Core.Path.{sym}
 use native.Mathlib.Omega.{arith}
 use borrow.Author.Needs.{needs}
 use denote.Ref.{now}
-use Rattle.lists.proofs.Fold.{pick-false}
+use Rattle.lists.proofs.Cases.{pick-false}
 use Rattle.warp.proofs.Pixel.{mixed}
 use Rattle.warp.proofs.mix.Statement.{statement}
 use Rattle.warp.proofs.mix.Tie as tie

@@ -1,10 +1,10 @@
--- `calls::agrees` meets its contract. Assumes nothing.
+-- `calls::call_agrees` meets its contract. Assumes nothing.
 use mathlib.Core.Path.{sym}
 use native.Mathlib.Omega.{arith}
 use lib.Seq.{length-take-le}
 use borrow.Author.Needs.{needs}
-use Rattle.calls.proofs.agrees.Statement.{statement}
-use Rattle.calls.proofs.agrees.Tie as tie
+use Rattle.calls.proofs.call_agrees.Statement.{statement}
+use Rattle.calls.proofs.call_agrees.Tie as tie
 
 length-at-requires : tie.Need-length-at-requires
 length-at-requires c κs = search needs
@@ -75,8 +75,8 @@ called-requires c κs = search needs
 returns-2 : tie.Need-returns-2
 returns-2 c = search needs
 
-pub agrees-spec : {M : Type 1} → statement M
-agrees-spec =
+pub call-agrees-spec : {M : Type 1} → statement M
+call-agrees-spec =
     tie.close
     (tie.spec
     length-at-requires
