@@ -68,6 +68,9 @@ fields-normal s x t h = cond-no (eqb (suc x) 255) (cond (eqb t 0) (inf s) nan) (
     differ : (x : ℕ) → suc x < 255 → suc x ≡ 255 → ⊥
     differ x h e = omega arith
 
+field : (b : ℕ) → 8388608 ≤ b → suc (b / 8388608 - 1) ≡ b / 8388608
+field b h = omega arith
+
 -- the value of the fields of a magnitude r below the infinity's
 pub fields-value : (s : Bool) (r : ℕ) → r < 2139095040 → HasValue (ofFields binary32 s (r / 8388608) (r % 8388608)) s (unitsAt r) (2 ^ 149)
 fields-value s r h = go (ltb r 8388608) (ltb→lt r 8388608) (nltb→le r 8388608)
@@ -85,9 +88,6 @@ fields-value s r h = go (ltb r 8388608) (ltb→lt r 8388608) (nltb→le r 838860
         (sym (ap (λ (x : ℕ). ofFields binary32 s x (r % 8388608)) (sym (field r (n tt))) ∙ fields-normal s (r / 8388608 - 1) (r % 8388608) (field-lt r (n tt) h)))
         (odd-sign 24 s (8388608 + r % 8388608) (r / 8388608 - 1) 149)
       where
-        field : (b : ℕ) → 8388608 ≤ b → suc (b / 8388608 - 1) ≡ b / 8388608
-        field b h = omega arith
-
         field-lt : (b : ℕ) → 8388608 ≤ b → b < 2139095040 → suc (b / 8388608 - 1) < 255
         field-lt b h k = omega arith
 
@@ -183,15 +183,12 @@ units-under b = elim (lt-or-le b 8388608) [ inl l ↦ small l | inr g ↦ normal
     few : (b : ℕ) → 8388608 + b % 8388608 ≤ 8388608 * 2
     few b = omega arith
 
-    next : (b : ℕ) → 8388608 ≤ b → suc (b / 8388608 - 1) ≡ b / 8388608
-    next b h = omega arith
-
     normal : 8388608 ≤ b → unitsAt b ≤ 8388608 * 2 ^ (b / 8388608)
     normal g =
         let k = b / 8388608 - 1 in
         le-trans (le-of-eq (units-normal b g))
         (le-trans (mul-le-mul-right (2 ^ k) (few b))
-        (le-of-eq (mul-assoc 8388608 2 (2 ^ k) ∙ ap (λ (x : ℕ). 8388608 * x) (sym (pow-succ' 2 k) ∙ ap (λ (x : ℕ). 2 ^ x) (next b g)))))
+        (le-of-eq (mul-assoc 8388608 2 (2 ^ k) ∙ ap (λ (x : ℕ). 8388608 * x) (sym (pow-succ' 2 k) ∙ ap (λ (x : ℕ). 2 ^ x) (field b g)))))
 
 -- the exponent's field is less, or it is the same and the digits are no more
 pub units-mono : (p q : ℕ) → p ≤ q → unitsAt p ≤ unitsAt q

@@ -16,7 +16,7 @@ use Rattle.root.specs.Root.{sq, sqrtOf, rootNear}
 use Rattle.floats.specs.Units.{unitsAt}
 use Rattle.floats.proofs.Patterns.{units-at-pos, bits-value, units-normal}
 use Rattle.root.proofs.Squares.{IsRoot}
-use Rattle.root.proofs.Near.{near-root, root-range}
+use Rattle.root.proofs.Near.{half-lt, near-root, root-range}
 use Rattle.root.proofs.Patterns.{root-of-value}
 
 near-fits : (n : ℕ) → T (fits binary32 (rootNear n))
@@ -104,9 +104,6 @@ half-le k h = omega arith
 pub q-low : (t : ℕ) → 16777216 ≤ t → 8388608 ≤ (t + 1) / 2
 q-low t h = omega arith
 
-q-high : (t : ℕ) → t ≤ 33554430 → (t + 1) / 2 < 16777216
-q-high t h = omega arith
-
 -- the answer's pattern, from the exponent k and the whole root t
 abbrev pub pattern : ℕ → ℕ → ℕ
 pattern k t = (half k + 49) * 8388608 + (t + 1) / 2
@@ -118,7 +115,7 @@ pattern-root b m k t P B e l g K i =
     let q = (t + 1) / 2 in
     let R = root-range (wide m k) t (wide-ge m k l) (wide-le m k g) i in
     let ql = q-low t (R .0) in
-    let qh = q-high t (R .1) in
+    let qh = half-lt t (R .1) in
     let small = pattern-lt h q (half-le k K) qh in (
       small,
       value-unique binary32 (ofBits binary32 (pattern k t)) (rootNear (wide m k * (2 ^ h * 2 ^ h))) false (q * 2 ^ (h + 49)) (2 ^ 149) (lit< tt)
