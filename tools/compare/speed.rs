@@ -188,8 +188,9 @@ const HEAD: &str = "\
 Document 000 in Rust against the library: one thread, its processor time, both compiled for no processor in particular. The ratio is
 document 000's time over the library's: above 1 the library is faster. Passes: nanoseconds for each pixel and pass, ten passes less none.
 Preparing: nanoseconds for each pixel, a call with max_iter 0. Pixels are counted after resizing; an edge of 350 changes nothing at sides up
-to 350. Memory: document 000 allocates its images in each call, zeroed, and frees them. The library works in lent memory and clears work and
-marks at the end of each call, so that the next finds them cleared. Both are part of preparing.";
+to 350. Memory: document 000 allocates its images in each call, zeroed, and frees them; what the system takes to hand out pages is in its
+times, mostly in preparing, and where a page is first touched by a pass, in the passes. The library works in lent memory that the call before
+left cleared, and clears work and marks at the end of each call, which is in preparing.";
 
 fn main() {
     let rounds = std::env::args().nth(1).map_or(15, |a| a.parse().expect("ROUNDS is a number"));
