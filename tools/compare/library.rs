@@ -3,8 +3,10 @@
 //!
 //!   library [CALLS]
 //!
-//! The aligner, the lengths, the matrix and the pins are held to document 01's rules as they are written down here.
+//! The aligner, the lengths and the pins are held to document 01's rules as tools/oracle/aligner.rs has them.
 
+#[path = "../oracle/aligner.rs"]
+mod aligner;
 #[allow(dead_code)]
 #[path = "../oracle/ecc.rs"]
 mod ecc;
@@ -17,8 +19,9 @@ mod quayhollow;
 #[allow(dead_code)]
 #[path = "../oracle/rules.rs"]
 mod rules;
+use aligner::{pins, pixels, Memory};
 use ecc::EccConfig;
-use lines::Stream;
+use lines::{pick, Stream};
 use quayhollow::{Answer, Outcome, Pose, Settings, State};
 use std::ptr::{null, null_mut};
 
@@ -68,24 +71,6 @@ extern "C" {
     fn c_defaults(c: *mut Call);
 }
 
-/// the memory lent to a call
-#[derive(Clone)]
-struct Memory {
-    state: Vec<u64>,
-    store: Vec<u8>,
-    work: Vec<f32>,
-    marks: Vec<u8>,
-    pose: Vec<f32>,
-}
-
-impl Memory {
-    /// the bits of all of it
-    fn bits(&self) -> (&[u64], &[u8], Vec<u32>, &[u8], Vec<u32>) {
-        let bits = |xs: &[f32]| xs.iter().map(|x| x.to_bits()).collect();
-        (&self.state, &self.store, bits(&self.work), &self.marks, bits(&self.pose))
-    }
-}
-
 /// what a call is handed beside the memory
 struct Given {
     template: Vec<u8>,
@@ -122,57 +107,10 @@ impl Given {
         }
     }
 
-    /// the oracle's answer, and what is cleared
-    fn aligned(&self, template: &[u8], m: &mut Memory) -> ecc::Outcome {
+    fn config(&self) -> EccConfig {
         let s = self.settings;
-        let cfg = EccConfig { eps: s.eps, max_iter: s.max_iter, gauss_filt_size: s.filter, resize_long_edge: (s.edge > 0).then_some(s.edge) };
-        let o = ecc::find_transform_ecc_euclidean(template, &self.input, self.w, self.h, cfg, m.work.len(), m.marks.len());
-        if o.number == 0 || o.number > 4 {
-            let n = pixels(self.w, self.h, s.edge);
-            m.work[..12 * n].fill(0.0);
-            m.marks[..n].fill(0);
-        }
-        o
+        aligner::config(s.eps, s.max_iter, s.filter, s.edge)
     }
-
-    /// document 01's aligner: 2, length, 13; then the frame is kept, with 11, 12 or the alignment's answer
-    fn estimated(&self, m: &mut Memory) -> ecc::Outcome {
-        let refusal = |number| ecc::Outcome { number, passes: 0, theta: 0.0, tx: 0.0, ty: 0.0, rho: 0.0 };
-        let (w, h) = (self.w, self.h);
-        if w > 4096 || h > 4096 {
-            return refusal(2);
-        }
-        if self.input.len() != w * h {
-            return refusal(1);
-        }
-        if m.store.len() < w * h {
-            return refusal(13);
-        }
-        let o = match m.state[..] {
-            [held, pw, ph, ..] if held != 0 && (pw, ph) == (w as u64, h as u64) => self.aligned(&m.store[..w * h].to_vec(), m),
-            [held, _, _, ..] if held != 0 => refusal(12),
-            _ => refusal(11),
-        };
-        m.store[..w * h].copy_from_slice(&self.input);
-        if m.state.len() >= 3 {
-            m.state[..3].copy_from_slice(&[1, w as u64, h as u64]);
-        }
-        o
-    }
-}
-
-/// document 01's n; 0 for sides that are 0 or above 4,096
-fn pixels(w: usize, h: usize, edge: usize) -> usize {
-    if w == 0 || h == 0 || w > 4096 || h > 4096 {
-        return 0;
-    }
-    let (tw, th, _, _) = ecc::resized(w, h, Some(edge));
-    tw * th
-}
-
-/// document 01's pins of three numbers: the product is exact in f64
-fn pin(x: f32, by: f64) -> i16 {
-    (x as f64 * by).round().clamp(-32768.0, 32767.0) as i16
 }
 
 /// how many comparisons were made, and how many failed
@@ -200,7 +138,7 @@ impl Tally {
         let mut told = [0; 2];
         unsafe { c_told(code, told.as_mut_ptr()) };
         self.hold(told == [o.number as u32, o.passes as u32], what);
-        self.hold(got.bits() == expected.bits(), what);
+        self.hold(got.differs(expected).is_empty(), what);
     }
 
     /// a call by the wrapper: its outcome, with the matrix and the pins, and the memory but for the pose
@@ -212,15 +150,11 @@ impl Tally {
         };
         let same = numbers.map(f32::to_bits) == [o.theta, o.tx, o.ty, o.rho].map(f32::to_bits);
         self.hold(same && (got.answer.number(), got.passes as usize) == (o.number, o.passes), what);
-        self.hold(m.bits() == expected.bits(), what);
+        self.hold(m.differs(expected).is_empty(), what);
         self.hold(got.answer.matrix().map(|r| r.map(f32::to_bits)) == ecc::matrix(o).map(|r| r.map(f32::to_bits)), what);
-        let pins = got.answer.pins();
-        self.hold([pins.dx, pins.dy, pins.turn] == [pin(o.tx, 256.0), pin(o.ty, 256.0), pin(o.theta, 8192.0)], what);
+        let p = got.answer.pins();
+        self.hold([p.dx, p.dy, p.turn] == pins(o), what);
     }
-}
-
-fn pick<T: Copy>(s: &mut Stream, of: &[T]) -> T {
-    of[s.next() as usize % of.len()]
 }
 
 /// a frame of ramps and noise, and one like it; some are flat
@@ -276,7 +210,7 @@ fn calls(t: &mut Tally, count: usize) {
         let (set, w, h) = (g.settings, g.w, g.h);
 
         let mut expected = m.clone();
-        let o = g.aligned(&g.template, &mut expected);
+        let o = aligner::align(&g.template, &g.input, w, h, g.config(), &mut expected);
         let mut by_c = m.clone();
         let code = unsafe { c_align(&g.record(&mut by_c)) };
         t.by_c("align by the header", code, &o, &by_c, &mut expected);
@@ -291,7 +225,7 @@ fn calls(t: &mut Tally, count: usize) {
             m.store[..g.template.len()].copy_from_slice(&g.template);
         }
         let mut expected = m.clone();
-        let o = g.estimated(&mut expected);
+        let o = aligner::estimate(&g.input, w, h, g.config(), &mut expected);
         let mut by_c = m.clone();
         let code = unsafe { c_estimate(&g.record(&mut by_c)) };
         t.by_c("estimate by the header", code, &o, &by_c, &mut expected);
@@ -309,13 +243,7 @@ fn calls(t: &mut Tally, count: usize) {
 /// lengths for sides and edges of all kinds; the version, the defaults, and memory of no length at null
 fn lengths(t: &mut Tally) {
     let sides = [0, 1, 4, 7, 8, 9, 12, 350, 351, 400, 700, 4095, 4096, 4097, 1 << 32, usize::MAX];
-    let mut c = Given { template: vec![], input: vec![], w: 0, h: 0, settings: Settings::default() }.record(&mut Memory {
-        state: vec![],
-        store: vec![],
-        work: vec![],
-        marks: vec![],
-        pose: vec![],
-    });
+    let mut c = Given { template: vec![], input: vec![], w: 0, h: 0, settings: Settings::default() }.record(&mut Memory::default());
     for (w, h, edge) in sides.iter().flat_map(|&w| sides.iter().flat_map(move |&h| sides.map(|edge| (w, h, edge)))) {
         let n = pixels(w, h, edge);
         let store = if w > 4096 || h > 4096 { 0 } else { w * h };
@@ -352,27 +280,26 @@ fn answers(t: &mut Tally, count: usize) {
         let (theta, tx, ty) = (number(&mut s), number(&mut s), number(&mut s));
         let no = pick(&mut s, &[0, 0, 0, 1, 10, 13, 128, 255]);
         let o = ecc::Outcome { number: no, passes: 0, theta, tx, ty, rho: 0.0 };
-        let finite = no == 0 && theta.is_finite() && tx.is_finite() && ty.is_finite();
-        let three = if finite { [pin(tx, 256.0), pin(ty, 256.0), pin(theta, 8192.0)] } else { [0; 3] };
+        let three = pins(&o);
         let nine: Vec<u32> = ecc::matrix(&o).concat().iter().map(|x| x.to_bits()).collect();
 
         let long = pick(&mut s, &[9, 9, 10, 12, 8, 0]);
         let mut matrix = s.floats(long);
-        let mut pins: Vec<i16> = (0..pick(&mut s, &[3, 3, 4, 6, 2, 0])).map(|i| 1000 + i).collect();
+        let mut got: Vec<i16> = (0..pick(&mut s, &[3, 3, 4, 6, 2, 0])).map(|i| 1000 + i).collect();
         let mut all: Vec<u32> = matrix.iter().map(|x| x.to_bits()).collect();
-        let mut whole = pins.clone();
+        let mut whole = got.clone();
         if all.len() >= 9 {
             all[..9].copy_from_slice(&nine);
         }
         if whole.len() >= 3 {
             whole[..3].copy_from_slice(&three);
         }
-        let (matrix_len, pins_len) = (matrix.len(), pins.len());
-        let a = Handed { number: no, theta, tx, ty, matrix: matrix.as_mut_ptr(), matrix_len, pins: pins.as_mut_ptr(), pins_len };
+        let (matrix_len, pins_len) = (matrix.len(), got.len());
+        let a = Handed { number: no, theta, tx, ty, matrix: matrix.as_mut_ptr(), matrix_len, pins: got.as_mut_ptr(), pins_len };
         unsafe { c_matrix(&a) };
         unsafe { c_pins(&a) };
         t.hold(matrix.iter().map(|x| x.to_bits()).eq(all), "matrix by the header");
-        t.hold(pins == whole, "pins by the header");
+        t.hold(got == whole, "pins by the header");
         if no == 0 {
             let answer = Answer::Posed(Pose { theta, tx, ty, rho: 0.0 });
             t.hold(answer.matrix().concat().iter().map(|x| x.to_bits()).eq(nine), "matrix by the wrapper");

@@ -4,7 +4,7 @@
 
 #![allow(dead_code)]
 
-use crate::rules; // 01: for nalgebra and the platform's mathematics
+use super::rules; // 01: for nalgebra and the platform's mathematics
 
 #[derive(Debug, Clone, Copy)]
 pub struct EccConfig {
@@ -36,7 +36,7 @@ pub struct Outcome {
     pub rho: f32,
 }
 
-fn refusal(number: u8, passes: usize) -> Outcome {
+pub fn refusal(number: u8, passes: usize) -> Outcome {
     Outcome { number, passes, theta: 0.0, tx: 0.0, ty: 0.0, rho: 0.0 }
 }
 

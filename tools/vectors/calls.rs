@@ -12,15 +12,20 @@
 #[allow(dead_code)]
 #[path = "../oracle/ecc.rs"]
 mod ecc;
+mod frames;
 #[allow(dead_code)]
 mod lines;
 #[allow(dead_code)]
 #[path = "../oracle/rules.rs"]
 mod rules;
 use ecc::{EccConfig, Outcome};
+use frames::{pair, seen};
 use lines::{Line, Stream};
 
 const LAST: usize = usize::MAX;
+
+/// the texture's heights are five pixels apart
+const CELL: f32 = 5.0;
 
 #[derive(Clone)]
 struct Call {
@@ -108,28 +113,9 @@ fn cleared(number: u8, n: usize) -> [usize; 2] {
     [12 * n, n]
 }
 
-/// a smooth frame: random heights a few pixels apart and even slopes between, seen from a pose
-fn seen(seed: u64, w: usize, h: usize, pose: [f32; 3]) -> Vec<u8> {
-    let m = ecc::affine_from_theta_tx_ty(pose[0], pose[1], pose[2]);
-    let height = |i: usize, j: usize| {
-        let mut s = Stream(seed ^ (i as u64 * 7919 + j as u64 * 104_729 + 1));
-        s.next();
-        (s.next() % 256) as f32
-    };
-    let pixel = |x: f32, y: f32| {
-        let (u, v) = ((m[0][0] * x + m[0][1] * y + m[0][2] + 64.0) / 5.0, (m[1][0] * x + m[1][1] * y + m[1][2] + 64.0) / 5.0);
-        let (i, j) = (u as usize, v as usize);
-        let ease = |t: f32| t * t * (3.0 - 2.0 * t);
-        let (a, b) = (ease(u - i as f32), ease(v - j as f32));
-        let (top, low) = (height(i, j) * (1.0 - a) + height(i + 1, j) * a, height(i, j + 1) * (1.0 - a) + height(i + 1, j + 1) * a);
-        (top * (1.0 - b) + low * b + 0.5) as u8
-    };
-    (0..w * h).map(|i| pixel((i % w) as f32, (i / w) as f32)).collect()
-}
-
 /// a template and an input between which the frame moved by a pose
 fn moved(seed: u64, w: usize, h: usize, pose: [f32; 3]) -> Call {
-    call(w, h, &seen(seed, w, h, pose), &seen(seed, w, h, [0.0; 3]))
+    call(w, h, &seen(seed, CELL, w, h, pose), &seen(seed, CELL, w, h, [0.0; 3]))
 }
 
 /// sides above the limit, sides at it, and the smallest
@@ -273,7 +259,7 @@ fn faint() -> Vec<Call> {
     }
     let mut all = Vec::new();
     for (_, w, level, filter) in [below, above] {
-        let (flat, other) = (vec![level; w * w], seen(80, w, w, [0.0; 3]));
+        let (flat, other) = (vec![level; w * w], seen(80, CELL, w, w, [0.0; 3]));
         all.extend([call(w, w, &flat, &other).filter(filter), call(w, w, &other, &flat).filter(filter), call(w, w, &flat, &flat).filter(filter)]);
     }
     all
@@ -284,7 +270,7 @@ const POSES: [[f32; 3]; 7] =
 
 /// known motions, which the passes find; and larger frames with none: noise, a negative
 fn motions(s: &mut Stream) -> Vec<Call> {
-    let still = seen(60, 24, 20, [0.0; 3]);
+    let still = seen(60, CELL, 24, 20, [0.0; 3]);
     let negative: Vec<u8> = still.iter().map(|b| 255 - b).collect();
     let mut all = vec![call(24, 20, &s.bytes(480), &s.bytes(480)), call(24, 20, &still, &negative), call(24, 20, &still, &s.bytes(480)).filter(7)];
     for (i, &pose) in POSES.iter().enumerate() {
@@ -323,37 +309,10 @@ fn settings() -> Vec<Call> {
     all
 }
 
-/// a small frame of some sort: noise, nearly flat, one bright pixel, two levels, columns, rows, a board, a slope
-fn frame(s: &mut Stream, w: usize, h: usize) -> Vec<u8> {
-    let n = w * h;
-    let (a, b) = (s.next() as u8, s.next() as u8);
-    let (across, down) = (s.bytes(w), s.bytes(h));
-    let mut f: Vec<u8> = match s.next() % 8 {
-        0 => s.bytes(n),
-        1 => vec![a; n],
-        2 => vec![0; n],
-        3 => (0..n).map(|_| (s.next() % 2) as u8).collect(),
-        4 => (0..n).map(|i| across[i % w]).collect(),
-        5 => (0..n).map(|i| down[i / w]).collect(),
-        6 => (0..n).map(|i| if (i % w + i / w) % 2 == 0 { a } else { b }).collect(),
-        _ => (0..n).map(|i| (i % w * (a % 8) as usize + i / w * (b % 8) as usize) as u8).collect(),
-    };
-    for _ in 0..s.next() % 3 {
-        f[s.next() as usize % n] ^= 1 << (s.next() % 8);
-    }
-    f
-}
-
 /// a small call of any kind; a few have a length wrong or a float or a mark too few
 fn small(s: &mut Stream) -> Call {
     let (w, h) = (5 + s.next() as usize % 8, 5 + s.next() as usize % 8);
-    let a = frame(s, w, h);
-    let b = match s.next() % 5 {
-        0 => a.clone(),
-        1 => a.iter().map(|b| 255 - b).collect(),
-        2 => a.iter().skip(1).chain(&a[..1]).copied().collect(),
-        _ => frame(s, w, h),
-    };
+    let (a, b) = pair(s, w, h);
     let mut pick = |of: &[usize]| of[s.next() as usize % of.len()];
     let eps = [1e-4, -1.0, f32::NAN, 1e-3, f32::INFINITY, 0.0][pick(&[0, 0, 1, 1, 2, 3, 4, 5])];
     let c = call(w, h, &a, &b).eps(eps).passes(pick(&[0, 1, 3, 10, 10, 30])).filter(pick(&[1, 1, 3, 5, 7, 31]));

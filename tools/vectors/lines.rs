@@ -1,4 +1,4 @@
-//! What the programs of this folder share: a fixed stream of numbers, and a line of words.
+//! What the programs of tools/vectors and tools/compare share: a fixed stream of numbers, and a line of words.
 
 /// a fixed stream of numbers: Knuth's 64-bit linear congruence, its upper half
 pub struct Stream(pub u64);
@@ -28,6 +28,11 @@ impl Stream {
             })
             .collect()
     }
+}
+
+/// one of them
+pub fn pick<T: Copy>(s: &mut Stream, of: &[T]) -> T {
+    of[s.next() as usize % of.len()]
 }
 
 pub struct Line(pub String);

@@ -2,6 +2,9 @@
 //! the crates: it writes crates/pinlog/{stdin,stdout} (document 01's example) and crates/logs/{data,stdout}. tools/vectors/make runs it.
 
 #[allow(dead_code)]
+#[path = "../oracle/aligner.rs"]
+mod aligner;
+#[allow(dead_code)]
 #[path = "../oracle/ecc.rs"]
 mod ecc;
 #[allow(dead_code)]

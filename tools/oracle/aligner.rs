@@ -1,0 +1,91 @@
+//! A whole call by document 01, over the oracle (ecc.rs): what the alignment and the aligner answer, what they leave in the lent memory, the
+//! lengths that they need, and the pins of an answer. A model for tests. It shares nothing with the Rattle code.
+
+use super::ecc::{self, EccConfig, Outcome};
+
+/// the memory lent to a call
+#[derive(Clone, Debug, Default)]
+pub struct Memory {
+    pub state: Vec<u64>,
+    pub store: Vec<u8>,
+    pub work: Vec<f32>,
+    pub marks: Vec<u8>,
+    pub pose: Vec<f32>,
+}
+
+/// two lists of f32 hold the same bits
+fn same_bits(a: &[f32], b: &[f32]) -> bool {
+    a.len() == b.len() && a.iter().zip(b).all(|(x, y)| x.to_bits() == y.to_bits())
+}
+
+impl Memory {
+    /// the parts in which two memories differ, bit for bit
+    pub fn differs(&self, other: &Memory) -> Vec<&'static str> {
+        let parts = [
+            ("state", self.state == other.state),
+            ("store", self.store == other.store),
+            ("work", same_bits(&self.work, &other.work)),
+            ("marks", self.marks == other.marks),
+            ("pose", same_bits(&self.pose, &other.pose)),
+        ];
+        parts.iter().filter(|p| !p.1).map(|p| p.0).collect()
+    }
+}
+
+/// settings from numbers: an edge of 0 is none
+pub fn config(eps: f32, max_iter: usize, filter: usize, edge: usize) -> EccConfig {
+    EccConfig { eps, max_iter, gauss_filt_size: filter, resize_long_edge: (edge > 0).then_some(edge) }
+}
+
+/// document 01's n; 0 for sides that are 0 or above 4,096
+pub fn pixels(w: usize, h: usize, edge: usize) -> usize {
+    if w == 0 || h == 0 || w > 4096 || h > 4096 {
+        return 0;
+    }
+    let (tw, th, _, _) = ecc::resized(w, h, Some(edge));
+    tw * th
+}
+
+/// the oracle's answer; with 0 and 5 to 10 the first 12n floats and n marks are cleared
+pub fn align(template: &[u8], input: &[u8], w: usize, h: usize, cfg: EccConfig, m: &mut Memory) -> Outcome {
+    let o = ecc::find_transform_ecc_euclidean(template, input, w, h, cfg, m.work.len(), m.marks.len());
+    if o.number == 0 || o.number > 4 {
+        let n = pixels(w, h, cfg.resize_long_edge.unwrap_or(0));
+        m.work[..12 * n].fill(0.0);
+        m.marks[..n].fill(0);
+    }
+    o
+}
+
+/// document 01's aligner: 2, length, 13; then the frame is kept, with 11, 12 or the alignment's answer
+pub fn estimate(frame: &[u8], w: usize, h: usize, cfg: EccConfig, m: &mut Memory) -> Outcome {
+    if w > 4096 || h > 4096 {
+        return ecc::refusal(2, 0);
+    }
+    if frame.len() != w * h {
+        return ecc::refusal(1, 0);
+    }
+    if m.store.len() < w * h {
+        return ecc::refusal(13, 0);
+    }
+    let o = match m.state[..] {
+        [held, pw, ph, ..] if held != 0 && (pw, ph) == (w as u64, h as u64) => align(&m.store[..w * h].to_vec(), frame, w, h, cfg, m),
+        [held, _, _, ..] if held != 0 => ecc::refusal(12, 0),
+        _ => ecc::refusal(11, 0),
+    };
+    m.store[..w * h].copy_from_slice(frame);
+    if m.state.len() >= 3 {
+        m.state[..3].copy_from_slice(&[1, w as u64, h as u64]);
+    }
+    o
+}
+
+/// dx, dy, turn: an f32 times 256 or 8,192 is exact in f64; nearest, half away from zero, held to the range of i16. Zeros for a refusal and
+/// for a pose that is not finite
+pub fn pins(o: &Outcome) -> [i16; 3] {
+    if o.number != 0 || ![o.theta, o.tx, o.ty].iter().all(|x| x.is_finite()) {
+        return [0; 3];
+    }
+    let held = |x: f32, times: f64| (x as f64 * times).round().clamp(-32768.0, 32767.0) as i16;
+    [held(o.tx, 256.0), held(o.ty, 256.0), held(o.theta, 8192.0)]
+}
