@@ -7,6 +7,7 @@ mod ecc;
 #[allow(dead_code)]
 #[path = "../oracle/rules.rs"]
 mod rules;
+#[allow(dead_code)]
 mod lines;
 use lines::{Line, Stream};
 
