@@ -28,7 +28,7 @@ mod quayhollow;
 mod rules;
 mod shrink;
 use case::{Call, Case, Told};
-use families::{FAMILIES, LARGEST};
+use families::{FAMILIES, LARGE, LARGEST};
 use std::sync::atomic::{AtomicU64, Ordering};
 use std::thread;
 
@@ -59,7 +59,7 @@ fn roomy() -> bool {
     line.split_whitespace().nth(1).map_or(false, |k| k.parse::<u64>().map_or(false, |k| k > 8_000_000))
 }
 
-/// the family and the index of a job: the largest frames last, the other families in their order
+/// the family and the index of a job
 fn placed(mut job: u64, count: u64) -> (usize, u64) {
     for (f, family) in FAMILIES.iter().enumerate() {
         if job < family.cases(count) {
@@ -89,7 +89,7 @@ impl Run {
                 return t;
             }
             let (family, index) = placed(job, self.count);
-            if FAMILIES[family].name == "large sides" && LARGEST.contains(&index) && !self.roomy {
+            if family == LARGE && LARGEST.contains(&index) && !self.roomy {
                 eprintln!("left out, as there is too little memory: 4,096 by 4,096");
                 continue;
             }
@@ -172,7 +172,7 @@ fn all(count: u64, seed: u64) -> bool {
         }
     }
     let wrong = run.wrong.into_inner();
-    println!("compared {} calls, {} differences", run.done.into_inner(), wrong);
+    println!("compared {} calls, {} differences", total.ends.iter().flatten().sum::<u64>(), wrong);
     wrong > 0
 }
 

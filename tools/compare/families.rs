@@ -240,7 +240,8 @@ fn lengths(s: &mut Stream, _: u64) -> Case {
     Case { state, store, work, marks, salt: s.next(), calls: vec![call] }
 }
 
-/// the indexes at which the largest frames stand: 4,096 by 4,096
+/// the place of the family of large sides, and the indexes in it at which the largest frames stand: 4,096 by 4,096
+pub const LARGE: usize = 6;
 pub const LARGEST: [u64; 2] = [100, 101];
 
 /// sides of 4,096 and 4,097, and frames of up to a million pixels
