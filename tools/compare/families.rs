@@ -2,8 +2,8 @@
 
 use aligner::pixels;
 use case::{Call, Case};
-use frames::{frame, pair, seen};
-use lines::{pick, Stream};
+use frames::{faint_frame, frame, pair, seen};
+use lines::{about, below, pick, Stream};
 use quayhollow::Settings;
 
 pub struct Family {
@@ -42,15 +42,6 @@ pub fn case(seed: u64, family: usize, index: u64) -> Case {
     z = (z ^ z >> 30).wrapping_mul(0xbf58_476d_1ce4_e5b9);
     z = (z ^ z >> 27).wrapping_mul(0x94d0_49bb_1331_11eb);
     (FAMILIES[family].make)(&mut Stream(z ^ z >> 31), index)
-}
-
-fn below(s: &mut Stream, n: usize) -> usize {
-    s.next() as usize % n
-}
-
-/// a number from -size to size
-fn about(s: &mut Stream, size: f32) -> f32 {
-    (s.next() as f32 / 2147483648.0 - 1.0) * size
 }
 
 /// settings that are taken
@@ -171,21 +162,7 @@ fn textured(s: &mut Stream, _: u64) -> Case {
     single(s, w, h, both, Settings { edge, ..set })
 }
 
-/// a frame with next to nothing on it: flat, one pixel a step off, an edge of one level, two levels in noise, a slope of one level a few pixels
-fn faint_frame(s: &mut Stream, w: usize, h: usize) -> Vec<u8> {
-    let (level, x, y) = (s.next() as u8 % 255, below(s, w), below(s, h));
-    let (across, down) = (below(s, 2), below(s, 2));
-    let step = 1 + below(s, 6);
-    match below(s, 6) {
-        0 => vec![level; w * h],
-        1 => (0..w * h).map(|i| level + (i == y * w + x) as u8).collect(),
-        2 => (0..w * h).map(|i| level + (i % w >= x) as u8).collect(),
-        3 => (0..w * h).map(|i| level + (i % w * down + i / w * (1 - down) >= x) as u8).collect(),
-        4 => (0..w * h).map(|_| level + (s.next() >> 31) as u8).collect(),
-        _ => (0..w * h).map(|i| ((i % w * across + i / w) / step) as u8).collect(),
-    }
-}
-
+/// frames with next to nothing on them
 fn faint(s: &mut Stream, _: u64) -> Case {
     let (w, h) = (5 + below(s, 12), 5 + below(s, 12));
     let a = faint_frame(s, w, h);

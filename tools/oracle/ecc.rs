@@ -1,6 +1,9 @@
 //! The oracle: document 000 (src/boost_tracker/ecc.rs of kadu-v/jamtrack-rs at 65aa298d6b, MIT, see NOTICE) with document 01's
 //! mathematics and inverse in place of the platform's and nalgebra's, and document 01's number for each way to end. Every loop, sum and
 //! order is the Rust's own. `// 01:` marks each line that is not.
+//!
+//! The mathematics is the module `rules` beside this one: rules.rs for document 01's, machine.rs for the machine's. With machine.rs, whose
+//! `ADDED` is false, the tests that document 01 adds are not made, and this is document 000 but for nalgebra's inverse.
 
 #![allow(dead_code)]
 
@@ -80,7 +83,7 @@ pub fn find_transform_ecc_euclidean(
     work: usize,  // 01: how many floats and marks are lent
     marks: usize, // 01
 ) -> Outcome {
-    if width > 4096 || height > 4096 {
+    if rules::ADDED && (width > 4096 || height > 4096) {
         return refusal(2, 0); // 01
     }
     if width == 0 || height == 0 {
@@ -92,12 +95,12 @@ pub fn find_transform_ecc_euclidean(
     if cfg.gauss_filt_size == 0 || cfg.gauss_filt_size % 2 == 0 {
         return refusal(1, 0);
     }
-    if cfg.gauss_filt_size > 31 || cfg.max_iter > 1000 {
+    if rules::ADDED && (cfg.gauss_filt_size > 31 || cfg.max_iter > 1000) {
         return refusal(3, 0); // 01
     }
 
     let (tw, th, sx, sy) = resized(width, height, cfg.resize_long_edge);
-    if work < 12 * tw * th || marks < tw * th {
+    if rules::ADDED && (work < 12 * tw * th || marks < tw * th) {
         return refusal(4, 0); // 01
     }
     let template_blur = prepared(template_u8, width, height, tw, th, cfg.gauss_filt_size);
@@ -232,7 +235,7 @@ pub fn find_transform_ecc_euclidean(
         theta += delta[0];
         tx += delta[1];
         ty += delta[2];
-        if !(-2.0..=2.0).contains(&theta) || !tx.is_finite() || !ty.is_finite() {
+        if rules::ADDED && (!(-2.0..=2.0).contains(&theta) || !tx.is_finite() || !ty.is_finite()) {
             return refusal(10, passes); // 01
         }
     }
@@ -244,7 +247,7 @@ pub fn find_transform_ecc_euclidean(
     // Translation was estimated in scaled coordinates; map back to original image.
     let tx_unscaled = tx / sx;
     let ty_unscaled = ty / sy;
-    if !tx_unscaled.is_finite() || !ty_unscaled.is_finite() {
+    if rules::ADDED && (!tx_unscaled.is_finite() || !ty_unscaled.is_finite()) {
         return refusal(10, passes); // 01
     }
     Outcome { number: 0, passes, theta, tx: tx_unscaled, ty: ty_unscaled, rho }

@@ -2,6 +2,9 @@
 //! cosine and exponential and of nalgebra's inverse. Written from document 01, in signed whole numbers; shares nothing with the
 //! Rattle code.
 
+/// the tests for numbers 2, 3, 4 and 10 are made, which document 000 has not
+pub const ADDED: bool = true;
+
 const ONE: i64 = 1 << 30;
 
 /// a finite f32 as (digits, exponent): its size is digits * 2^exponent

@@ -12,6 +12,7 @@
 #[allow(dead_code)]
 #[path = "../oracle/ecc.rs"]
 mod ecc;
+#[allow(dead_code)]
 mod frames;
 #[allow(dead_code)]
 mod lines;

@@ -1,7 +1,7 @@
 //! Made frames: a smooth texture seen from a pose, small frames of many sorts, and pairs of them. Each depends on its arguments alone.
 
 use ecc;
-use lines::Stream;
+use lines::{below, Stream};
 
 /// a height of the texture, at a corner of its grid
 fn height(seed: u64, i: i64, j: i64) -> f32 {
@@ -58,4 +58,19 @@ pub fn pair(s: &mut Stream, w: usize, h: usize) -> (Vec<u8>, Vec<u8>) {
         _ => frame(s, w, h),
     };
     (a, b)
+}
+
+/// a frame with next to nothing on it: flat, one pixel a step off, an edge of one level, two levels in noise, a slope of one level a few pixels
+pub fn faint_frame(s: &mut Stream, w: usize, h: usize) -> Vec<u8> {
+    let (level, x, y) = (s.next() as u8 % 255, below(s, w), below(s, h));
+    let (across, down) = (below(s, 2), below(s, 2));
+    let step = 1 + below(s, 6);
+    match below(s, 6) {
+        0 => vec![level; w * h],
+        1 => (0..w * h).map(|i| level + (i == y * w + x) as u8).collect(),
+        2 => (0..w * h).map(|i| level + (i % w >= x) as u8).collect(),
+        3 => (0..w * h).map(|i| level + (i % w * down + i / w * (1 - down) >= x) as u8).collect(),
+        4 => (0..w * h).map(|_| level + (s.next() >> 31) as u8).collect(),
+        _ => (0..w * h).map(|i| ((i % w * across + i / w) / step) as u8).collect(),
+    }
 }

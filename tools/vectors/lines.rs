@@ -35,6 +35,16 @@ pub fn pick<T: Copy>(s: &mut Stream, of: &[T]) -> T {
     of[s.next() as usize % of.len()]
 }
 
+/// a number below n
+pub fn below(s: &mut Stream, n: usize) -> usize {
+    s.next() as usize % n
+}
+
+/// a number from -size to size
+pub fn about(s: &mut Stream, size: f32) -> f32 {
+    (s.next() as f32 / 2147483648.0 - 1.0) * size
+}
+
 pub struct Line(pub String);
 
 impl Line {
