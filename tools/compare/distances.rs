@@ -91,7 +91,7 @@ struct Group {
     make: fn(&mut Stream) -> Pair,
 }
 
-const GROUPS: [Group; 8] = [
+const GROUPS: [Group; 9] = [
     Group { name: "textures, known motion", pairs: 20_000, make: textured },
     Group { name: "the same, eps 1e-6", pairs: 10_000, make: |s| Pair { cfg: plain(1e-6, 100), ..textured(s) } },
     Group { name: "nearly flat", pairs: 50_000, make: faint },
@@ -99,6 +99,7 @@ const GROUPS: [Group; 8] = [
     Group { name: "small frames of all sorts", pairs: 50_000, make: small },
     Group { name: "small noise", pairs: 50_000, make: |s| noise(s, plain(1e-4, 100)) },
     Group { name: "small noise, never stopped", pairs: 20_000, make: |s| noise(s, plain(-1.0, 1000)) },
+    Group { name: "640 by 480, resized to 350", pairs: 300, make: resized },
     Group { name: "1,024 and 2,048 squared", pairs: 12, make: large },
 ];
 
@@ -145,18 +146,26 @@ fn noise(s: &mut Stream, cfg: EccConfig) -> Pair {
     Pair { w, h, frames: (s.bytes(w * h), s.bytes(w * h)), cfg }
 }
 
+fn resized(s: &mut Stream) -> Pair {
+    let pose = [about(s, 0.01), about(s, 3.0), about(s, 3.0)];
+    moved(s, 640, 480, pose, EccConfig::default())
+}
+
 fn large(s: &mut Stream) -> Pair {
     let side = pick(s, &[1024, 1024, 2048]);
     let pose = [about(s, 0.0005), about(s, 1.0), about(s, 1.0)];
     moved(s, side, side, pose, plain(1e-4, 30))
 }
 
-/// what the pairs of a group have shown
+/// how far two poses are apart (theta, tx, ty, rho), and whether their pass counts are the same
+type Apart = ([f32; 4], bool);
+
+/// what the pairs of a group have shown; `numbers[a][b]` counts those that the rules end with a and document 000 with b
 #[derive(Default)]
 struct Tally {
-    apart: [Vec<f32>; 4],
+    apart: Vec<Apart>,
     passes: usize,
-    numbers: BTreeMap<(u8, u8), usize>,
+    numbers: [[usize; 11]; 11],
     tens: BTreeMap<&'static str, usize>,
     not_held: usize,
 }
@@ -179,60 +188,98 @@ impl Tally {
     fn add(&mut self, e: &Ends) {
         let (a, b) = (e.rules, e.rust);
         self.not_held += !e.held as usize;
-        if a.number != b.number {
-            *self.numbers.entry((a.number, b.number)).or_default() += 1;
-        } else {
-            self.passes += (a.passes != b.passes) as usize;
-        }
+        self.numbers[a.number as usize][b.number as usize] += 1;
+        self.passes += (a.number == b.number && a.passes != b.passes) as usize;
         if a.number == 10 {
             *self.tens.entry(instead(&b)).or_default() += 1;
         }
         if (a.number, b.number) == (0, 0) {
             let far = [(a.theta, b.theta), (a.tx, b.tx), (a.ty, b.ty), (a.rho, b.rho)].map(|(x, y)| (x - y).abs());
-            far.iter().zip(&mut self.apart).for_each(|(x, all)| all.push(*x));
+            self.apart.push((far, a.passes == b.passes));
         }
     }
 
-    fn print(&mut self, g: &Group) {
-        let differ: usize = self.numbers.values().sum();
-        println!("{}: {} pairs; number differs {}, passes alone differ {}, both a pose {}", g.name, g.pairs, differ, self.passes, self.apart[0].len());
-        for (name, all) in ["theta", "tx", "ty", "rho"].iter().zip(&mut self.apart).filter(|p| !p.1.is_empty()) {
+    fn join(&mut self, other: &Tally) {
+        (0..121).for_each(|i| self.numbers[i / 11][i % 11] += other.numbers[i / 11][i % 11]);
+        other.tens.iter().for_each(|(what, n)| *self.tens.entry(what).or_default() += n);
+        self.not_held += other.not_held;
+    }
+
+    fn print(&self, g: &Group) {
+        let differ: usize = (0..121).filter(|i| i / 11 != i % 11).map(|i| self.numbers[i / 11][i % 11]).sum();
+        let (rules, rust) = (self.numbers[0][1..].iter().sum::<usize>(), self.numbers[1..].iter().map(|row| row[0]).sum::<usize>());
+        println!("{}: {} pairs", g.name, g.pairs);
+        println!("  number differs {}; a pose by the rules alone {}, by document 000 alone {}, by both {}", differ, rules, rust, self.apart.len());
+        println!("  number the same, passes differ: {}", self.passes);
+        for (i, name) in ["theta", "tx", "ty", "rho"].iter().enumerate().filter(|_| !self.apart.is_empty()) {
+            let mut all: Vec<f32> = self.apart.iter().map(|a| a.0[i]).collect();
             all.sort_by(f32::total_cmp);
-            let (equal, last) = (all.iter().filter(|x| **x == 0.0).count(), all.len() - 1);
-            println!("  {:6} equal {}, median {:.1e}, 99 of 100 within {:.1e}, largest {:.1e}", name, equal, all[last / 2], all[last * 99 / 100], all[last]);
+            let last = all.len() - 1;
+            let largest = self.apart.iter().filter(|a| a.1).fold(0.0f32, |m, a| m.max(a.0[i]));
+            let equal = all.iter().filter(|x| **x == 0.0).count();
+            println!(
+                "  {:6} equal {}, median {:.1e}, 99 of 100 within {:.1e}, largest {:.1e}, with the same passes {:.1e}",
+                name, equal, all[last / 2], all[last * 99 / 100], all[last], largest
+            );
         }
-        self.numbers.iter().for_each(|((a, b), n)| println!("  rules {}, document 000 {}: {}", a, b, n));
+    }
+
+    fn print_numbers(&self) {
+        let pairs: usize = self.numbers.iter().flatten().sum();
+        println!("all {} pairs, by the rules' number (down) and document 000's (across)", pairs);
+        let told = [0, 5, 6, 7, 8, 9];
+        println!("      {}", told.map(|b| format!("{:>7}", b)).concat());
+        for a in [0, 5, 6, 7, 8, 9, 10] {
+            println!("  {:>4}{}", a, told.map(|b| format!("{:>7}", self.numbers[a][b])).concat());
+        }
+        println!("the rules refuse with 10: {}; document 000 answers", self.tens.values().sum::<usize>());
+        self.tens.iter().for_each(|(what, n)| println!("  {}: {}", what, n));
     }
 }
 
-/// a square frame of a kind, full contrast
-fn board(kind: usize, side: usize) -> Vec<u8> {
-    match kind {
-        0 => Stream(1).bytes(side * side),
-        1..=3 => {
-            let cell = [2, 8, 32][kind - 1];
-            (0..side * side).map(|i| if (i % side / cell + i / side / cell) % 2 == 0 { 0 } else { 255 }).collect()
-        }
-        _ => seen(7, [3.0, 5.0, 10.0, 20.0][kind - 4], side, side, [0.0; 3]),
-    }
+/// frames of full contrast: boards of squares and textures, with the squares' sides or the texture's cells
+const KINDS: [(&str, usize); 9] = [
+    ("board", 4),
+    ("board", 8),
+    ("board", 16),
+    ("board", 32),
+    ("texture", 2),
+    ("texture", 3),
+    ("texture", 5),
+    ("texture", 10),
+    ("texture", 20),
+];
+
+/// a square frame and the same one pixel further; so many passes, no resizing
+fn one_further(kind: (&str, usize), side: usize, max_iter: usize) -> Pair {
+    let (name, cell) = kind;
+    let wide = side + 1;
+    let whole = match name {
+        "board" => (0..wide * side).map(|i| if (i % wide / cell + i / wide / cell) % 2 == 0 { 0 } else { 255 }).collect(),
+        _ => seen(7, cell as f32, wide, side, [0.0; 3]),
+    };
+    let part = |from: usize| whole.chunks(wide).flat_map(|row| row[from..from + side].to_vec()).collect();
+    Pair { w: side, h: side, frames: (part(0), part(1)), cfg: plain(1e-4, max_iter) }
 }
 
-/// one pass of a frame with itself, by both
-fn one_pass(kind: usize, side: usize) -> Ends {
-    let f = board(kind, side);
-    Pair { w: side, h: side, frames: (f.clone(), f), cfg: plain(1e-4, 1) }.ends()
+/// a pose that has not moved at all
+fn still(o: &ecc::Outcome) -> bool {
+    o.number == 0 && [o.theta, o.tx, o.ty] == [0.0; 3]
 }
 
-/// the smallest side, in steps of 16, at which a frame against itself is refused in its first pass; found by halves
-fn first_lost(kind: usize) -> Option<usize> {
-    let lost = |steps: usize| one_pass(kind, 16 * steps).rules.number == 9;
+/// the smallest side, in steps of 16 up to 4,096, whose first pass ends so; found by halves
+fn first_side(kind: (&str, usize), so: fn(&ecc::Outcome) -> bool) -> Option<usize> {
+    let ends_so = |steps: usize| {
+        let p = one_further(kind, 16 * steps, 1);
+        so(&ecc::find_transform_ecc_euclidean(&p.frames.0, &p.frames.1, p.w, p.h, p.cfg, usize::MAX, usize::MAX))
+    };
     let (mut low, mut high) = (16, 256);
-    if !lost(high) {
+    if !ends_so(high) {
         return None;
     }
     while high - low > 1 {
         let middle = (low + high) / 2;
-        if lost(middle) {
+        if ends_so(middle) {
             high = middle;
         } else {
             low = middle;
@@ -241,34 +288,40 @@ fn first_lost(kind: usize) -> Option<usize> {
     Some(16 * high)
 }
 
-fn sizes() {
-    println!("a square frame against itself, one pass, no resizing: the smallest side (in steps of 16, up to 4,096) refused with 9");
-    let names = ["noise", "board of 2", "board of 8", "board of 32", "texture of 3", "texture of 5", "texture of 10", "texture of 20"];
-    for (kind, name) in names.iter().enumerate() {
-        match first_lost(kind) {
-            Some(side) => {
-                let (e, before) = (one_pass(kind, side), one_pass(kind, side - 16));
-                println!("  {}: {} (document 000: {}); at {}: {} and {}", name, side, e.rust.number, side - 16, before.rules.number, before.rust.number);
-            }
-            None => println!("  {}: none", name),
-        }
+/// how a whole call ends at a side, by both
+fn print_end(kind: (&str, usize), side: usize) -> usize {
+    let e = one_further(kind, side, 30).ends();
+    let (a, b) = (e.rules, e.rust);
+    println!("    {}: rules {} after {} passes, tx {}; document 000 {} after {}, tx {}", side, a.number, a.passes, a.tx, b.number, b.passes, b.tx);
+    !e.held as usize
+}
+
+/// from which side on the first pass of square frames does not move the pose, and from which it is refused
+fn sizes() -> usize {
+    println!("a square frame and the same one pixel further, no resizing: the smallest sides (steps of 16, up to 4,096) whose first pass");
+    println!("leaves the pose where it is, or is refused with 9; and whole calls there and at the step before");
+    let mut not_held = 0;
+    for kind in KINDS {
+        let stuck = first_side(kind, |o| still(o) || o.number == 9);
+        let lost = first_side(kind, |o| o.number == 9);
+        println!("  {} of {}: not moved {:?}, refused {:?}", kind.0, kind.1, stuck, lost);
+        let sides: Vec<usize> = [stuck.map(|s| s - 16), stuck, lost].iter().flatten().copied().collect();
+        not_held += sides.iter().map(|side| print_end(kind, *side)).sum::<usize>();
     }
+    not_held
 }
 
 fn main() {
     let seed = std::env::args().nth(1).map_or(SEED, |n| n.parse().expect("SEED is a number"));
-    let mut tens: BTreeMap<&str, usize> = BTreeMap::new();
-    let mut not_held = 0;
+    let mut total = Tally::default();
     for (i, g) in GROUPS.iter().enumerate() {
         let (mut s, mut t) = (Stream(seed + i as u64), Tally::default());
         (0..g.pairs).for_each(|_| t.add(&(g.make)(&mut s).ends()));
         t.print(g);
-        t.tens.iter().for_each(|(what, n)| *tens.entry(what).or_default() += n);
-        not_held += t.not_held;
+        total.join(&t);
     }
-    println!("the rules refuse with 10: {}; document 000 answers", tens.values().sum::<usize>());
-    tens.iter().for_each(|(what, n)| println!("  {}: {}", what, n));
-    sizes();
-    println!("held to docs/source/ecc.rs on every pair: {} differences", not_held);
-    std::process::exit((not_held > 0) as i32);
+    total.print_numbers();
+    total.not_held += sizes();
+    println!("held to docs/source/ecc.rs on every pair: {} differences", total.not_held);
+    std::process::exit((total.not_held > 0) as i32);
 }
