@@ -90,7 +90,7 @@ impl Run {
             }
             let (family, index) = placed(job, self.count);
             if family == LARGE && LARGEST.contains(&index) && !self.roomy {
-                eprintln!("left out, as there is too little memory: 4,096 by 4,096");
+                println!("left out, as there is too little memory: the largest frames, case {}", index);
                 continue;
             }
             self.one(&mut t, family, index);

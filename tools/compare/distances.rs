@@ -42,7 +42,7 @@ mod error {
 use by_rules::ecc;
 use ecc::EccConfig;
 use error::BoostTrackErr;
-use frames::{faint_frame, pair, seen};
+use frames::{board, faint_frame, pair, seen};
 use lines::{about, below, pick, Stream};
 use std::collections::BTreeMap;
 
@@ -68,9 +68,10 @@ impl Pair {
     fn ends(&self) -> Ends {
         let (a, b, w, h, c) = (&self.frames.0, &self.frames.1, self.w, self.h, self.cfg);
         let rules = ecc::find_transform_ecc_euclidean(a, b, w, h, c, usize::MAX, usize::MAX);
-        let cfg = by_machine::ecc::EccConfig { eps: c.eps, max_iter: c.max_iter, gauss_filt_size: c.gauss_filt_size, resize_long_edge: c.resize_long_edge };
+        let EccConfig { eps, max_iter, gauss_filt_size, resize_long_edge } = c;
+        let cfg = by_machine::ecc::EccConfig { eps, max_iter, gauss_filt_size, resize_long_edge };
         let rust = by_machine::ecc::find_transform_ecc_euclidean(a, b, w, h, cfg, 0, 0);
-        let cfg = document_000::EccConfig { eps: c.eps, max_iter: c.max_iter, gauss_filt_size: c.gauss_filt_size, resize_long_edge: c.resize_long_edge };
+        let cfg = document_000::EccConfig { eps, max_iter, gauss_filt_size, resize_long_edge };
         let held = match document_000::find_transform_ecc_euclidean(a, b, w, h, cfg) {
             Ok(m) => rust.number == 0 && same(&m, &by_machine::ecc::affine_from_theta_tx_ty(rust.theta, rust.tx, rust.ty)),
             Err(BoostTrackErr::InvalidInput) => rust.number == 1,
@@ -253,13 +254,11 @@ const KINDS: [(&str, usize); 9] = [
 /// a square frame and the same one pixel further; so many passes, no resizing
 fn one_further(kind: (&str, usize), side: usize, max_iter: usize) -> Pair {
     let (name, cell) = kind;
-    let wide = side + 1;
-    let whole = match name {
-        "board" => (0..wide * side).map(|i| if (i % wide / cell + i / wide / cell) % 2 == 0 { 0 } else { 255 }).collect(),
-        _ => seen(7, cell as f32, wide, side, [0.0; 3]),
+    let frame = |further: usize| match name {
+        "board" => board(cell, side, side, further),
+        _ => seen(7, cell as f32, side, side, [0.0, further as f32, 0.0]),
     };
-    let part = |from: usize| whole.chunks(wide).flat_map(|row| row[from..from + side].to_vec()).collect();
-    Pair { w: side, h: side, frames: (part(0), part(1)), cfg: plain(1e-4, max_iter) }
+    Pair { w: side, h: side, frames: (frame(0), frame(1)), cfg: plain(1e-4, max_iter) }
 }
 
 /// a pose that has not moved at all

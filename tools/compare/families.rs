@@ -2,7 +2,7 @@
 
 use aligner::pixels;
 use case::{Call, Case};
-use frames::{faint_frame, frame, pair, seen};
+use frames::{board, faint_frame, frame, pair, seen};
 use lines::{about, below, pick, Stream};
 use quayhollow::Settings;
 
@@ -217,17 +217,19 @@ fn lengths(s: &mut Stream, _: u64) -> Case {
     Case { state, store, work, marks, salt: s.next(), calls: vec![call] }
 }
 
-/// the place of the family of large sides, and the indexes in it at which the largest frames stand: 4,096 by 4,096
+/// the place of the family of large sides, and the indexes in it at which the largest frames stand
 pub const LARGE: usize = 6;
-pub const LARGEST: [u64; 2] = [100, 101];
+pub const LARGEST: [u64; 3] = [100, 101, 102];
 
 /// sides of 4,096 and 4,097, and frames of up to a million pixels
 fn large(s: &mut Stream, index: u64) -> Case {
+    if let Some(which) = LARGEST.iter().position(|i| *i == index) {
+        return largest(s, which);
+    }
     let (mut set, seed, cell) = (settings(s), s.next() as u64, pick(s, &[5.0, 8.0, 20.0]));
     let side = pick(s, &[4096, 4096, 4096, 4097, 4095]);
     let thin = pick(s, &[1, 2, 5, 8, 17, 40]);
     let (w, h) = match below(s, 40) {
-        _ if LARGEST.contains(&index) => (4096, 4096),
         0 => (1024, 1024),
         1..=4 => (200 + below(s, 500), 200 + below(s, 500)),
         5..=22 => (side, thin),
@@ -235,12 +237,19 @@ fn large(s: &mut Stream, index: u64) -> Case {
     };
     set.edge = pick(s, &[0, 0, 350, 100, 4095, 4096]);
     set.max_iter = pick(s, &[1, 2, 5]);
-    if LARGEST.contains(&index) {
-        set = Settings { edge: 0, max_iter: 2, filter: [1, 5][index as usize % 2], ..set };
-    }
     let pose = [about(s, 0.001), about(s, 1.0), about(s, 1.0)];
     let both = (seen(seed, cell, w, h, pose), seen(seed, cell, w, h, [0.0; 3]));
     single(s, w, h, both, set)
+}
+
+/// a texture of 4,096 by 4,096; boards whose determinant is no number and infinite
+fn largest(s: &mut Stream, which: usize) -> Case {
+    let (side, filter) = [(4096, 5), (4096, 1), (2496, 1)][which];
+    let both = match which {
+        0 => (seen(5, 8.0, side, side, [0.0002, 0.7, -0.4]), seen(5, 8.0, side, side, [0.0; 3])),
+        _ => (board(4, side, side, 0), board(4, side, side, 1)),
+    };
+    single(s, side, side, both, Settings { eps: 1e-4, max_iter: 3, filter, edge: 0 })
 }
 
 /// the next frame of a sequence: most go on with a moving texture; some are of another sort, of other sides, or refused

@@ -49,7 +49,8 @@ impl Shrinker {
     /// fewer passes and plain settings, all calls alike
     fn plainer(&mut self) -> bool {
         let most = self.best.calls.iter().map(|c| c.settings.max_iter).max().unwrap_or(0);
-        let fewer = [0, 1, 2, most / 2, most.saturating_sub(1)].iter().any(|&m| m < most && self.attempt(&mut |c| each(c, |k| k.settings.max_iter = m)));
+        let at_most = |&m: &usize| m < most && self.attempt(&mut |c| each(c, |k| k.settings.max_iter = m));
+        let fewer = [0, 1, 2, most / 2, most.saturating_sub(1)].iter().any(at_most);
         let odd = |f: &dyn Fn(&Call) -> bool, s: &Shrinker| s.best.calls.iter().any(f);
         let unblurred = odd(&|k| k.settings.filter != 1, self) && self.attempt(&mut |c| each(c, |k| k.settings.filter = 1));
         let unscaled = odd(&|k| k.settings.edge != 0, self) && self.attempt(&mut |c| each(c, |k| k.settings.edge = 0));

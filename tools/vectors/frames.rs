@@ -1,4 +1,4 @@
-//! Made frames: a smooth texture seen from a pose, small frames of many sorts, and pairs of them. Each depends on its arguments alone.
+//! Made frames: a smooth texture seen from a pose, a board, small frames of many sorts and pairs of them, nearly flat ones. Each depends on its arguments alone.
 
 use ecc;
 use lines::{below, Stream};
@@ -23,6 +23,11 @@ pub fn seen(seed: u64, cell: f32, w: usize, h: usize, pose: [f32; 3]) -> Vec<u8>
         (row(j) * (1.0 - b) + row(j + 1) * b + 0.5) as u8
     };
     (0..w * h).map(|i| pixel((i % w) as f32, (i / w) as f32)).collect()
+}
+
+/// a board of black and white squares, seen so many pixels further right
+pub fn board(cell: usize, w: usize, h: usize, further: usize) -> Vec<u8> {
+    (0..w * h).map(|i| ((i % w + further) / cell + i / w / cell) as u8 % 2 * 255).collect()
 }
 
 /// a small frame of some sort: noise, nearly flat, one bright pixel, two levels, columns, rows, a board, a slope
