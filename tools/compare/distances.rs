@@ -266,7 +266,7 @@ fn still(o: &ecc::Outcome) -> bool {
     o.number == 0 && [o.theta, o.tx, o.ty] == [0.0; 3]
 }
 
-/// the smallest side, in steps of 16 up to 4,096, whose first pass ends so; found by halves
+/// the smallest side, in steps of 16 up to 4,096, whose first pass ends so; found by halves, as if all larger sides ended so too
 fn first_side(kind: (&str, usize), so: fn(&ecc::Outcome) -> bool) -> Option<usize> {
     let ends_so = |steps: usize| {
         let p = one_further(kind, 16 * steps, 1);
