@@ -1,17 +1,17 @@
-//! Vectors for the driver numbers, by the model (tools/oracle/pinlog.rs), which works in f64, where the products are exact. Each line is a kind
+//! Vectors for the driver numbers, by the model (tools/oracle/aligner.rs), which works in f64, where the products are exact. Each line is a kind
 //! and its words in hexadecimal: number, theta, tx, ty; then dx, dy and turn, each by two words: 1 if it is below 0, else 0,
 //! and its distance to 0. tools/vectors/make runs it.
 //!
 //! Document 01's case 8 is on the list, the lines without a star too: 200 gives 32767, -128 gives -32768, theta -2 gives -16384.
 
 #[allow(dead_code)]
+#[path = "../oracle/aligner.rs"]
+mod aligner;
+#[allow(dead_code)]
 #[path = "../oracle/ecc.rs"]
 mod ecc;
 #[allow(dead_code)]
 mod lines;
-#[allow(dead_code)]
-#[path = "../oracle/pinlog.rs"]
-mod pinlog;
 #[allow(dead_code)]
 #[path = "../oracle/rules.rs"]
 mod rules;
@@ -21,9 +21,7 @@ use lines::{Line, Stream};
 fn line(number: u8, theta: f32, tx: f32, ty: f32) -> String {
     let o = Outcome { number, passes: 0, theta, tx, ty, rho: 0.0 };
     let all = [theta, tx, ty];
-    let still = number != 0 || all.iter().any(|x| !x.is_finite());
-    let [dx, dy, turn] = if still { [0; 3] } else { pinlog::pins(&o) };
-    let words = [dx, dy, turn].map(|v| [(v < 0) as usize, v.unsigned_abs() as usize]).concat();
+    let words = aligner::pins(&o).map(|v| [(v < 0) as usize, v.unsigned_abs() as usize]).concat();
     Line::new(27).words(&[number as usize]).floats(&all).words(&words).0
 }
 
