@@ -1,3 +1,4 @@
+-- `pgm2rec::fill` stays within the buffer: each read is lent what is left of it. Assumes nothing.
 use Prim.Native.Nat.{_-_, _≤_}
 use mathlib.Core.Path.{_≡_}
 use native.Mathlib.Omega.{arith}
