@@ -11,7 +11,7 @@ use Rattle.series.specs.Series.{cosOf, sinOf, expNegOf}
 use Rattle.settings.specs.Sides.{scaledOf, sideOf, resizedOf}
 use Rattle.resize.specs.Resize.{placeOf, firstOf, tapOf, byteOf, blendOf, sampleOf, resizeOf}
 use Rattle.gradients.specs.Gradients.{gradientX, gradientY}
-use Rattle.pose.specs.Pose.{mapOf, isPose, identity, turnedOf, posedMatrix, matrixOf}
+use Rattle.pose.specs.Pose.{mapOf, isPose, identity, turnedOf, posedMatrix, matrixOf, posed}
 use Rattle.warp.specs.Warp.{sxOf, syOf, inside, markedAt, marksOf, warpOf}
 use Rattle.warp.specs.Warp as warp
 use Rattle.checks.specs.Checks.{sizeOf, roomOf, settledOf, checkOf}
@@ -21,14 +21,15 @@ use Rattle.prepare.specs.Prepared as prepare
 use Rattle.stats.specs.Stats.{meanOf, centredOf, productOf, statsOf}
 use Rattle.inverse.specs.Inverse.{overOf, inverseOf, dotOf, timesOf}
 use Rattle.solve.specs.Solve.{steepOf, projOf, hessianOf, errorOf, movedOf, updateOf, solveOf}
-use Rattle.pass.specs.Pass.{weighedOf, passOf}
-use Rattle.runs.specs.Runs.{start, landed, next, after, posed, outcomeOf}
+use Rattle.verdict.specs.Verdict.{verdictOf}
+use Rattle.pass.specs.Pass.{onward, weighedOf, passOf}
+use Rattle.runs.specs.Runs.{start, landed, next, after, outcomeOf}
 use Rattle.alignment.specs.Aligned.{passIn, runOf, alignedOf}
 use Rattle.driver.specs.Pins.{nearestHeld, pinOf, posedOf, pinsOf}
 use Rattle.cases.specs.Table.{Starred}
 
 pub starred : Starred
-unfolding add sub mul div round lt isNan ofInt ofBits toBits toUnsigned grow tab grid pick floorOf nearestOf roundOf maxOf sqrtOf cosOf sinOf expNegOf scaledOf sideOf resizedOf placeOf firstOf tapOf byteOf blendOf sampleOf resizeOf gradientX sum neg eq le overMarked countOn mapOf sxOf syOf inside markedAt marksOf warpOf warp.sampleOf isPose identity turnedOf posedMatrix matrixOf sizeOf roomOf settledOf checkOf blurOf grayOf prepare.scaledOf preparedOf gradientY meanOf centredOf productOf statsOf overOf inverseOf dotOf timesOf steepOf projOf hessianOf errorOf movedOf updateOf solveOf weighedOf passOf start landed next after posed outcomeOf passIn runOf alignedOf sumOver absOf nearestHeld pinOf posedOf pinsOf
+unfolding add sub mul div round lt isNan ofInt ofBits toBits toUnsigned grow tab grid pick floorOf nearestOf roundOf maxOf sqrtOf cosOf sinOf expNegOf scaledOf sideOf resizedOf placeOf firstOf tapOf byteOf blendOf sampleOf resizeOf gradientX sum neg eq le overMarked countOn mapOf sxOf syOf inside markedAt marksOf warpOf warp.sampleOf isPose identity turnedOf posedMatrix matrixOf sizeOf roomOf settledOf checkOf blurOf grayOf prepare.scaledOf preparedOf gradientY meanOf centredOf productOf statsOf overOf inverseOf dotOf timesOf steepOf projOf hessianOf errorOf movedOf updateOf solveOf verdictOf onward weighedOf passOf start landed next after posed outcomeOf passIn runOf alignedOf sumOver absOf nearestHeld pinOf posedOf pinsOf
 starred = record {
   marks-of-5x5 = refl;
   marks-of-4x5 = refl;

@@ -17,14 +17,14 @@ use Rattle.lists.proofs.Cases.{pick-where, pick-both, pick-true, pick-false}
 use Rattle.floats.specs.Bound.{Within}
 use Rattle.settings.specs.declared.EccConfig.{EccConfig}
 use Rattle.checks.specs.Checks.{roomOf, settledOf, checkOf}
-use Rattle.pose.specs.Pose.{numberOf}
+use Rattle.pose.specs.Pose.{numberOf, posed}
 use Rattle.pose.specs.declared.Pose.{Pose}
 use Rattle.pose.specs.declared.Answer.{Answer}
 use Rattle.pose.specs.declared.Answer.the-variants.{Posed, Refused}
 use Rattle.pose.specs.declared.Outcome.{Outcome}
 use Rattle.solve.specs.declared.Step.{Step}
 use Rattle.solve.specs.declared.Step.the-variants.{Refuse, Stop, Move}
-use Rattle.runs.specs.Runs.{Run, going, settled, refused, start, landed, next, after, posed, outcomeOf}
+use Rattle.runs.specs.Runs.{Run, going, settled, refused, start, landed, next, after, outcomeOf}
 use Rattle.runs.proofs.Moves.{Sound, pass-sound}
 use Rattle.alignment.specs.Aligned.{passIn, runOf, alignedOf}
 use Rattle.demands.specs.Finite.{endsIn, clears}

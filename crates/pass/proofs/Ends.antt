@@ -4,14 +4,11 @@ use mathlib.Core.Path.{_≡_, sym, _∙_}
 use mathlib.Core.Bool.{true, false}
 use mathlib.Core.List.{List}
 use lib.Dec.{ltb}
-use lib.Ieee.{Float, le, lt}
-use lib.Ieee.Scale.{finite}
+use lib.Ieee.{Float}
 use borrow.Author.Tests.{lt-ltb, le-ltb}
 use Rattle.lists.specs.Marked.{pick}
 use Rattle.lists.proofs.Cases.{pick-true, pick-false}
 use Rattle.marks.specs.Marks.{countOn}
-use Rattle.floats.specs.F32.{_⊖_, _⊗_, _⊘_}
-use Rattle.numbers.specs.Numbers.{absOf}
 use Rattle.pose.specs.Pose.{mapOf}
 use Rattle.pose.specs.declared.Map.{Map}
 use Rattle.pose.specs.declared.Pose.{Pose}
@@ -20,13 +17,11 @@ use Rattle.stats.specs.Stats.{centredOf, statsOf}
 use Rattle.stats.specs.declared.Stats.{Stats}
 use Rattle.solve.specs.Solve.{steepOf, solveOf}
 use Rattle.solve.specs.declared.Step.{Step}
-use Rattle.pass.specs.Pass.{tiny, stops, weighedOf, passOf}
+use Rattle.verdict.specs.Verdict.{verdictOf}
+use Rattle.verdict.specs.declared.Verdict.{Verdict}
+use Rattle.pass.specs.Pass.{onward, weighedOf, passOf}
 
--- ---- the stop, after a last correlation that is finite
-pub by-difference : (rho last eps d : Float) → finite last ≡ true → d ≡ absOf (rho ⊖ last) → lt d eps ≡ stops rho last eps
-by-difference rho last eps d f e = rw (e, f)
-
--- ---- the tests, by the statistics
+-- ---- the verdict on the statistics
 module _ (ms : List ℕ) (template warped j1 j2 : List Float) (w h : ℕ) (eps : Float) (p : Pose) (last : Float) where
   abbrev tz : List Float
   tz = centredOf ms (w * h) template
@@ -34,37 +29,28 @@ module _ (ms : List ℕ) (template warped j1 j2 : List Float) (w h : ℕ) (eps :
   abbrev iz : List Float
   iz = centredOf ms (w * h) warped
 
-  abbrev rhoOf : Stats → Float
-  rhoOf s = s .corr ⊘ (s .«img_norm» ⊗ s .«tmp_norm»)
-
-  abbrev solved : Stats → Step
-  solved s = solveOf ms (w * h) p (steepOf w h (p .theta) j1 j2) j1 j2 tz iz s (rhoOf s)
+  abbrev solved : Stats → Float → Step
+  solved s = solveOf ms (w * h) p (steepOf w h (p .theta) j1 j2) j1 j2 tz iz s
 
   abbrev answer : Step
   answer = weighedOf ms template warped j1 j2 w h eps p last
 
-  module _ (s : Stats) (is-s : s ≡ statsOf ms (w * h) tz iz) where
-    by-stats : pick (le (s .«tmp_norm») tiny) (Step.Refuse 6) (pick (le (s .«img_norm») tiny) (Step.Refuse 6) (pick (finite (rhoOf s)) (pick (stops (rhoOf s) last eps) (Step.Stop (rhoOf s)) (solved s)) (Step.Refuse 7))) ≡ answer
+  module _ (s : Stats) (is-s : s ≡ statsOf ms (w * h) tz iz) (v : Verdict) (is-v : v ≡ verdictOf s last eps) where
+    by-verdict : onward v (solved s) ≡ answer
     unfolding weighedOf
-    by-stats = rw is-s
+    by-verdict = rw (is-v, is-s)
 
-    pub flat-template : le (s .«tmp_norm») tiny ≡ true → Step.Refuse 6 ≡ answer
-    flat-template e = sym (pick-true _ _ _ e) ∙ by-stats
+    pub on-bad : (number : ℕ) → v ≡ Verdict.Bad number → Step.Refuse number ≡ answer
+    unfolding onward
+    on-bad number e = rw e at by-verdict
 
-    module _ (not-flat : le (s .«tmp_norm») tiny ≡ false) where
-      pub flat-image : le (s .«img_norm») tiny ≡ true → Step.Refuse 6 ≡ answer
-      flat-image e = sym (pick-false _ _ _ not-flat ∙ pick-true _ _ _ e) ∙ by-stats
+    pub on-settled : (rho : Float) → v ≡ Verdict.Settled rho → Step.Stop rho ≡ answer
+    unfolding onward
+    on-settled rho e = rw e at by-verdict
 
-      module _ (neither : le (s .«img_norm») tiny ≡ false) where
-        pub rho-endless : finite (rhoOf s) ≡ false → Step.Refuse 7 ≡ answer
-        rho-endless e = sym (pick-false _ _ _ not-flat ∙ pick-false _ _ _ neither ∙ pick-false _ _ _ e) ∙ by-stats
-
-        module _ (ends : finite (rhoOf s) ≡ true) where
-          pub rho-settled : stops (rhoOf s) last eps ≡ true → Step.Stop (rhoOf s) ≡ answer
-          rho-settled e = sym (pick-false _ _ _ not-flat ∙ pick-false _ _ _ neither ∙ pick-true _ _ _ ends ∙ pick-true _ _ _ e) ∙ by-stats
-
-          pub goes-on : stops (rhoOf s) last eps ≡ false → (r : Step) → r ≡ solved s → r ≡ answer
-          goes-on e r q = q ∙ sym (pick-false _ _ _ not-flat ∙ pick-false _ _ _ neither ∙ pick-true _ _ _ ends ∙ pick-false _ _ _ e) ∙ by-stats
+    pub on-unsettled : (rho : Float) → v ≡ Verdict.Unsettled rho → (r : Step) → r ≡ solved s rho → r ≡ answer
+    unfolding onward
+    on-unsettled rho e r q = q ∙ rw e at by-verdict
 
 -- ---- the marks first
 module _ (template input gx gy : List Float) (w h : ℕ) (eps : Float) (p : Pose) (last : Float) (map : Map) (is-map : map ≡ mapOf p) where

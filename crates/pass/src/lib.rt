@@ -11,9 +11,10 @@ ghost use Rattle.floats.specs.Bound.{Within};
 ghost use Rattle.warp.specs.Warp.{marksOf, warpOf};
 ghost use Rattle.stats.specs.Stats.{centredOf, statsOf};
 ghost use Rattle.solve.specs.Solve.{steepOf, solveOf};
-ghost use Rattle.pass.specs.Pass.{passOf, stops, weighedOf};
+ghost use Rattle.pass.specs.Pass.{passOf, weighedOf};
 ghost use Rattle.pass.specs.Kept.{Kept, KeptMarks};
 use solve::Step;
+use verdict::Verdict;
 
 // The warp within the work: images 2 to 4 into 5 to 7.
 fn warp_work(
@@ -61,13 +62,6 @@ fn solve_work(
     solve::solve(&mut work[6 * n..], marks, w, h, at, s, rho)
 }
 
-// Whether the correlation has settled.
-fn settled(rho: f32, last: f32, eps: f32) -> bool
-    ensures { λ r. ⌜ r ≡ stops rho last eps ⌝ }
-{
-    numbers::is_finite(last) && numbers::abs(rho - last) < eps
-}
-
 // A pass after its warp: centring, the tests 6 and 7, the stop, the second half. `marks` are the pass's marks and no more.
 fn weigh(
     work: &mut [f32],
@@ -85,20 +79,11 @@ fn weigh(
 {
     let n = w * h;
     let s = centre_work(work, marks, n, found);
-    if s.tmp_norm <= 0.000001 {
-        return Step::Refuse(6);
+    match verdict::judge(s, last, eps) {
+        Verdict::Bad(number) => Step::Refuse(number),
+        Verdict::Settled(rho) => Step::Stop(rho),
+        Verdict::Unsettled(rho) => solve_work(work, marks, w, h, at, s, rho),
     }
-    if s.img_norm <= 0.000001 {
-        return Step::Refuse(6);
-    }
-    let rho = s.corr / (s.img_norm * s.tmp_norm);
-    if !numbers::is_finite(rho) {
-        return Step::Refuse(7);
-    }
-    if settled(rho, last, eps) {
-        return Step::Stop(rho);
-    }
-    solve_work(work, marks, w, h, at, s, rho)
 }
 
 // The three scratch slices hold a row's places between two loops of the warp.

@@ -1,10 +1,10 @@
--- The matrix of a pose and of an answer: document 000's affine_from_theta_tx_ty and identity3. Definitions only.
+-- The matrix of a pose and of an answer: document 000's affine_from_theta_tx_ty and identity3; the pose in original pixels. Definitions only.
 use Prim.Native.Nat.{ℕ}
 use mathlib.Core.Bool.{Bool, _&&_}
 use lib.Ieee.{Float, neg, le}
 use lib.Ieee.Scale.{finite}
 use Rattle.lists.specs.Marked.{pick}
-use Rattle.floats.specs.F32.{0f, 1f, 2f}
+use Rattle.floats.specs.F32.{_⊘_, 0f, 1f, 2f}
 use Rattle.series.specs.Series.{cosOf, sinOf}
 use Rattle.pose.specs.declared.Map.{Map}
 use Rattle.pose.specs.declared.Pose.{Pose}
@@ -15,6 +15,13 @@ use Rattle.inverse.specs.declared.Matrix3.{Matrix3}
 -- [[ct, -st, tx], [st, ct, ty]]
 unfoldable pub mapOf : Pose → Map
 mapOf p = let ct = cosOf (p .theta) in let st = sinOf (p .theta) in record { m00 = ct; m01 = neg st; m02 = p .tx; m10 = st; m11 = ct; m12 = p .ty }
+
+-- the pose in original pixels: tx over tw / w, ty over th / h; 10 where one of them is not finite then
+unfoldable pub posed : Float → Float → Pose → Float → Answer
+posed sx sy p rho =
+    let tx = p .tx ⊘ sx in
+    let ty = p .ty ⊘ sy in
+    pick (finite tx) (pick (finite ty) (Posed (p .theta) tx ty rho) (Refused 10)) (Refused 10)
 
 -- numbers of a pose: theta in -2..2, tx and ty finite
 unfoldable pub isPose : Float → Float → Float → Bool

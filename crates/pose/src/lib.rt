@@ -1,7 +1,7 @@
-// Poses and answers: what the passes carry, what a call hands back, and the matrix of each.
+// Poses and answers: what the passes carry, the pose in original pixels, what a call hands back, and the matrix of each.
 ghost use mathlib.Core.Path.{_≡_};
 ghost use Rattle.floats.specs.Bound.{Within};
-ghost use Rattle.pose.specs.Pose.{mapOf, identity, isPose, turnedOf, posedMatrix, matrixOf, numberOf};
+ghost use Rattle.pose.specs.Pose.{mapOf, posed, identity, isPose, turnedOf, posedMatrix, matrixOf, numberOf};
 use inverse::Matrix3;
 
 // The running pose.
@@ -52,6 +52,26 @@ pub fn affine_from_theta_tx_ty(pose: Pose) -> Map
         m10: st,
         m11: ct,
         m12: pose.ty,
+    }
+}
+
+// The pose in original pixels, by the factors tw / w and th / h; 10 where its shift is not finite then.
+pub fn unscaled(at: Pose, rho: f32, sx: f32, sy: f32) -> Answer
+    ensures { λ r. ⌜ r ≡ posed sx sy at rho ⌝ }
+{
+    let tx = at.tx / sx;
+    let ty = at.ty / sy;
+    if !numbers::is_finite(tx) {
+        return Answer::Refused(10);
+    }
+    if !numbers::is_finite(ty) {
+        return Answer::Refused(10);
+    }
+    Answer::Posed {
+        theta: at.theta,
+        tx,
+        ty,
+        rho,
     }
 }
 

@@ -5,11 +5,12 @@ use native.Mathlib.Omega.{arith}
 use native.Mathlib.Nat.{zero-add, suc-add}
 use native.Mathlib.Numerals.{add-one}
 use lib.Ieee.{Float}
+use Rattle.pose.specs.Pose.{posed}
 use Rattle.pose.specs.declared.Pose.{Pose}
 use Rattle.pose.specs.declared.Answer.the-variants.{Refused}
 use Rattle.solve.specs.declared.Step.{Step}
 use Rattle.solve.specs.declared.Step.the-variants.{Refuse, Stop, Move}
-use Rattle.runs.specs.Runs.{Run, going, settled, refused, start, landed, next, after, posed, outcomeOf}
+use Rattle.runs.specs.Runs.{Run, going, settled, refused, start, landed, next, after, outcomeOf}
 
 module _ (pass : Pose → Float → Step) where
   -- where one more pass changes nothing, no number of them does

@@ -1,4 +1,3 @@
 pub mod Ends
 pub mod Moves
-pub mod Scaled
 pub mod Stays

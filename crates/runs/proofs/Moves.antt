@@ -20,7 +20,9 @@ use Rattle.solve.specs.Solve.{movedOf, updateOf, solveOf}
 use Rattle.solve.specs.declared.Step.{Step}
 use Rattle.solve.specs.declared.Step.the-variants.{Refuse, Stop, Move}
 use Rattle.stats.specs.declared.Stats.{Stats}
-use Rattle.pass.specs.Pass.{weighedOf, passOf}
+use Rattle.verdict.specs.Verdict.{verdictOf}
+use Rattle.verdict.specs.declared.Verdict.{Verdict}
+use Rattle.pass.specs.Pass.{onward, weighedOf, passOf}
 use Rattle.pass.specs.Kept.{Kept}
 
 -- a refusal is a number from 5 to 10, a correlation is finite, and the next pose can be gone on with
@@ -52,12 +54,15 @@ module _ (p : Pose) (rho : Float) (f : finite rho ≡ true) where
     solve-sound = update-sound _
 
 module _ (w h : ℕ) (eps : Float) (p : Pose) (last : Float) where
+  onward-sound : (s : Stats) (update : Float → Step) → ((rho : Float) → finite rho ≡ true → Sound (update rho)) → Sound (onward (verdictOf s last eps) update)
+  unfolding onward verdictOf Sound
+  onward-sound s update u =
+      let P : Verdict → Type 0 = λ v. Sound (onward v update) in
+      pick-both P _ _ _ (refuses 6 tt) (pick-both P _ _ _ (refuses 6 tt) (pick-where P _ _ _ (λ f. pick-both P _ _ _ f (u _ f)) (refuses 7 tt)))
+
   weighed-sound : (marks : List ℕ) (template warped j1 j2 : List Float) → Sound (weighedOf marks template warped j1 j2 w h eps p last)
-  unfolding weighedOf Sound
-  weighed-sound marks template warped j1 j2 =
-      pick-both Sound _ _ _ (refuses 6 tt)
-      (pick-both Sound _ _ _ (refuses 6 tt)
-      (pick-where Sound _ _ _ (λ f. pick-both Sound _ _ _ f (solve-sound p _ f _ _ _ _ _ _ _ _)) (refuses 7 tt)))
+  unfolding weighedOf
+  weighed-sound marks template warped j1 j2 = onward-sound _ _ (λ rho f. solve-sound p rho f _ _ _ _ _ _ _ _)
 
   pub pass-sound : (template input gx gy : List Float) → Sound (passOf template input gx gy w h eps p last)
   unfolding passOf

@@ -1,12 +1,10 @@
 -- The passes of a call: the state after k of them, and what they come to. Definitions only.
 use Prim.Native.Nat.{ℕ, zero, suc}
 use lib.Ieee.{Float, neg}
-use lib.Ieee.Scale.{finite}
-use Rattle.lists.specs.Marked.{pick}
 use Rattle.floats.specs.F32.{_⊘_, 0f, 1f}
 use Rattle.pose.specs.declared.Pose.{Pose}
-use Rattle.pose.specs.declared.Answer.{Answer}
-use Rattle.pose.specs.declared.Answer.the-variants.{Posed, Refused}
+use Rattle.pose.specs.Pose.{posed}
+use Rattle.pose.specs.declared.Answer.the-variants.{Refused}
 use Rattle.pose.specs.declared.Outcome.{Outcome}
 use Rattle.solve.specs.declared.Step.{Step}
 use Rattle.solve.specs.declared.Step.the-variants.{Refuse, Stop, Move}
@@ -37,13 +35,6 @@ unfoldable pub after : (Pose → Float → Step) → ℕ → Run
 unfolding start next
 after pass zero = start
 after pass (suc k) = next pass (after pass k)
-
--- the pose in original pixels: tx over tw / w, ty over th / h; 10 where one of them is not finite then
-unfoldable pub posed : Float → Float → Pose → Float → Answer
-posed sx sy p rho =
-    let tx = p .tx ⊘ sx in
-    let ty = p .ty ⊘ sy in
-    pick (finite tx) (pick (finite ty) (Posed (p .theta) tx ty rho) (Refused 10)) (Refused 10)
 
 -- what the passes come to: after max_iter passes the pose stands
 unfoldable pub outcomeOf : Float → Float → Run → Outcome

@@ -8,31 +8,11 @@ ghost use lib.ListN.{length};
 ghost use Rattle.lists.specs.Lists.{image};
 ghost use Rattle.pass.specs.Pass.{passOf};
 ghost use Rattle.pass.specs.Kept.{Kept, KeptMarks};
-ghost use Rattle.runs.specs.Runs.{after, posed, outcomeOf};
+ghost use Rattle.runs.specs.Runs.{after, outcomeOf};
 use pose::Answer;
 use pose::Outcome;
 use pose::Pose;
 use solve::Step;
-
-// The pose in original pixels, by the factors tw / w and th / h; 10 where its shift is not finite then.
-fn unscaled(at: Pose, rho: f32, sx: f32, sy: f32) -> Answer
-    ensures { λ r. ⌜ r ≡ posed sx sy at rho ⌝ }
-{
-    let tx = at.tx / sx;
-    let ty = at.ty / sy;
-    if !numbers::is_finite(tx) {
-        return Answer::Refused(10);
-    }
-    if !numbers::is_finite(ty) {
-        return Answer::Refused(10);
-    }
-    Answer::Posed {
-        theta: at.theta,
-        tx,
-        ty,
-        rho,
-    }
-}
 
 // The three scratch slices hold a row's places between two loops of the warp.
 pub fn run(
@@ -62,7 +42,7 @@ pub fn run(
     let mut k = 0usize;
     let answer = loop {
         if k == max_iter {
-            break unscaled(at, rho, sx, sy);
+            break pose::unscaled(at, rho, sx, sy);
         }
         let step = pass::pass(work, marks, w, h, eps, at, last, spots, across, down);
         k += 1;
@@ -71,7 +51,7 @@ pub fn run(
                 break Answer::Refused(n);
             }
             Step::Stop(r) => {
-                break unscaled(at, r, sx, sy);
+                break pose::unscaled(at, r, sx, sy);
             }
             Step::Move(p, r) => {
                 at = p;

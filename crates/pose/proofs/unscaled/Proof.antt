@@ -1,10 +1,10 @@
--- `runs::unscaled` meets its contract. Assumes nothing.
+-- `pose::unscaled` meets its contract. Assumes nothing.
 use mathlib.Core.Path.{sym, _∙_}
 use borrow.Author.Needs.{needs}
 use borrow.Author.Tests.{not-true, not-false}
-use Rattle.runs.proofs.Scaled.{first-endless, second-endless, stands}
-use Rattle.runs.proofs.unscaled.Statement.{statement}
-use Rattle.runs.proofs.unscaled.Tie as tie
+use Rattle.pose.proofs.Scaled.{first-endless, second-endless, stands}
+use Rattle.pose.proofs.unscaled.Statement.{statement}
+use Rattle.pose.proofs.unscaled.Tie as tie
 
 is-finite-requires : tie.Need-is-finite-requires
 is-finite-requires c κs = search needs

@@ -1,9 +1,9 @@
--- `pass::settled` meets its contract: where the last correlation is finite, the second test decides. Assumes nothing.
+-- `verdict::settled` meets its contract: where the last correlation is finite, the second test decides. Assumes nothing.
 use mathlib.Core.Path.{sym, _∙_}
 use borrow.Author.Needs.{needs}
-use Rattle.pass.proofs.Ends.{by-difference}
-use Rattle.pass.proofs.settled.Statement.{statement}
-use Rattle.pass.proofs.settled.Tie as tie
+use Rattle.verdict.proofs.Ends.{by-difference}
+use Rattle.verdict.proofs.settled.Statement.{statement}
+use Rattle.verdict.proofs.settled.Tie as tie
 
 is-finite-requires : tie.Need-is-finite-requires
 is-finite-requires c κs = search needs

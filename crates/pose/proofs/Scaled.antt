@@ -5,9 +5,9 @@ use lib.Ieee.{Float}
 use lib.Ieee.Scale.{finite}
 use Rattle.lists.proofs.Cases.{pick-true, pick-false}
 use Rattle.floats.specs.F32.{_⊘_}
 use Rattle.pose.specs.declared.Pose.{Pose}
 use Rattle.pose.specs.declared.Answer.the-variants.{Posed, Refused}
-use Rattle.runs.specs.Runs.{posed}
+use Rattle.pose.specs.Pose.{posed}
 
 module _ (sx sy : Float) (p : Pose) (rho : Float) where
   abbrev tx : Float

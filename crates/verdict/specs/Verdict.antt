@@ -1,0 +1,25 @@
+-- The tests of document 000 between the statistics of a pass and its update, in their order: 6, 7, the stop. Definitions only.
+use mathlib.Core.Bool.{Bool, _&&_}
+use lib.Ieee.{Float, binary32, le, lt, ofBits}
+use lib.Ieee.Scale.{finite}
+use Rattle.lists.specs.Marked.{pick}
+use Rattle.floats.specs.F32.{_⊖_, _⊗_, _⊘_}
+use Rattle.numbers.specs.Numbers.{absOf}
+use Rattle.stats.specs.declared.Stats.{Stats}
+use Rattle.verdict.specs.declared.Verdict.{Verdict}
+use Rattle.verdict.specs.declared.Verdict.the-variants.{Bad, Settled, Unsettled}
+
+-- 1e-6
+abbrev pub tiny : Float
+tiny = ofBits binary32 0x3586_37bd
+
+-- last_rho.is_finite() && (rho - last_rho).abs() < eps
+abbrev pub stops : Float → Float → Float → Bool
+stops rho last eps = finite last && lt (absOf (rho ⊖ last)) eps
+
+unfoldable pub verdictOf : Stats → Float → Float → Verdict
+verdictOf s last eps =
+    let rho = s .corr ⊘ (s .«img_norm» ⊗ s .«tmp_norm») in
+    pick (le (s .«tmp_norm») tiny) (Bad 6)
+    (pick (le (s .«img_norm») tiny) (Bad 6)
+    (pick (finite rho) (pick (stops rho last eps) (Settled rho) (Unsettled rho)) (Bad 7)))
