@@ -13,15 +13,14 @@ use Rattle.floats.specs.Bound.{Within, Bounded}
 use Rattle.floats.specs.F32.{_⊗_}
 use Rattle.floats.specs.Sums.{sumTo}
 use Rattle.floats.proofs.Within.{within-more, scaled-within}
-use Rattle.floats.proofs.Values.{upto-within}
 use Rattle.blur.specs.declared.Along.{Along}
 use Rattle.blur.specs.declared.Along.the-variants.{Rows, Columns}
-use Rattle.blur.specs.Kernel.{kernelOf}
+use Rattle.kernel.specs.Kernel.{kernelOf}
 use Rattle.blur.specs.Blur.{rowsOf, columnsOf, blurOf}
 use Rattle.blur.specs.Pass.{spotOf, tapsOf, passOf}
 use Rattle.lists.proofs.Grow.{grid-all}
 use Rattle.floats.proofs.Sums.{to-within}
-use Rattle.blur.proofs.Kernels.{weight-up-to}
+use Rattle.kernel.proofs.Kernels.{weight-within}
 use Rattle.blur.proofs.Taps.{spot-in}
 use Rattle.blur.proofs.Passes.{rows-are, columns-are}
 
@@ -30,9 +29,6 @@ thirty-two : (n k : ℕ) → n ≤ 31 → n * 2 ^ k * 1 ≤ 2 ^ (k + 5) * 1
 thirty-two n k few = rw (pow-add 2 k 5) (omega (arith, mul-le-mul-right (2 ^ k) few))
 
 module _ (ksize : ℕ) (few : ksize ≤ 31) (odd : ksize % 2 ≡ 1) where
-  pub weight-within : (i : ℕ) → i < ksize → Within (getD (kernelOf ksize) i nan) 1 1
-  weight-within i l = upto-within (getD (kernelOf ksize) i nan) 1 1 (weight-up-to ksize i few odd l)
-
   module _ (w h k : ℕ) (src : List Float) (b : Bounded src (w * h) k) where
     pixel-within : k ≤ 98 → (along : Along) (x y : ℕ) → x < w → y < h → Within (tapsOf along (kernelOf ksize) ksize w h src ksize x y) (2 ^ (k + 5)) 1
     unfolding tapsOf
@@ -40,7 +36,7 @@ module _ (ksize : ℕ) (few : ksize ≤ 31) (odd : ksize % 2 ≡ 1) where
         let spot : ℕ → ℕ = λ j. spotOf along ksize w h x y j in
         let f : ℕ → Float = λ j. getD src (spot j) nan ⊗ getD (kernelOf ksize) j nan in
         within-more (sumTo f ksize) (ksize * 2 ^ k) 1 (2 ^ (k + 5)) 1 (lit< tt)
-        (to-within k (omega arith) f ksize (omega arith) (λ j l. scaled-within k (omega arith) _ _ (b (spot j) (spot-in along ksize w h x y j p q)) (weight-within j l)))
+        (to-within k (omega arith) f ksize (omega arith) (λ j l. scaled-within k (omega arith) _ _ (b (spot j) (spot-in along ksize w h x y j p q)) (weight-within ksize few odd j l)))
         (thirty-two ksize k few)
 
     pass-within : k ≤ 98 → (along : Along) → Bounded (passOf along (kernelOf ksize) ksize w h src) (w * h) (k + 5)

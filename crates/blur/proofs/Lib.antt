@@ -1,4 +1,3 @@
-pub mod Kernels
 pub mod Taps
 pub mod Passes
 pub mod Bounds

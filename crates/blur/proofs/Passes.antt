@@ -12,10 +12,10 @@ use Rattle.lists.proofs.Put.{take-put-front}
 use Rattle.lists.proofs.Images.{image-set, length-setImage, step-back}
 use Rattle.blur.specs.declared.Along.{Along}
 use Rattle.blur.specs.declared.Along.the-variants.{Rows, Columns}
-use Rattle.blur.specs.Kernel.{kernelOf}
+use Rattle.kernel.specs.Kernel.{kernelOf}
 use Rattle.blur.specs.Blur.{rowsOf, columnsOf}
 use Rattle.blur.specs.Pass.{tapsOf, passOf}
-use Rattle.blur.proofs.Kernels.{length-kernel}
+use Rattle.kernel.proofs.Kernels.{length-kernel}
 
 pub rows-are : (ksize w h : ℕ) (src : List Float) → passOf Rows (kernelOf ksize) ksize w h src ≡ rowsOf ksize w h src
 unfolding passOf tapsOf rowsOf

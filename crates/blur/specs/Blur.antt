@@ -8,7 +8,7 @@ use Rattle.lists.specs.Lists.{grid}
 use Rattle.lists.specs.Marked.{pick}
 use Rattle.floats.specs.F32.{_⊗_}
 use Rattle.floats.specs.Sums.{sumTo}
-use Rattle.blur.specs.Kernel.{kernelOf}
+use Rattle.kernel.specs.Kernel.{kernelOf}
 
 -- (p + k - radius).clamp(0, n - 1): `-` on whole numbers stops at 0
 abbrev pub heldOf : ℕ → ℕ → ℕ → ℕ → ℕ

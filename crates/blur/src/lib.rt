@@ -1,84 +1,14 @@
-// gaussian_kernel and gaussian_blur_separable, for the odd sizes 3 to 31. (Size 1 leaves an image as it is.)
+// gaussian_blur_separable, for the odd sizes 3 to 31. (Size 1 leaves an image as it is.)
 //
 // The blur is lent three images one after another: it reads the first, leaves the pass along the rows in the second and the blurred
 // image in the third. Edge pixels are repeated. Each pixel's products are added in the kernel's order, from +0, each operation
 // rounded once; the loop over a row's pixels is the innermost, so that the compiler can take several pixels at once.
 ghost use mathlib.Core.Path.{_≡_};
 ghost use Prim.Native.Nat.{_+_, _-_, _*_, _%_, _≤_, _<_, min};
-ghost use lib.ListN.{length, take, getD};
-ghost use lib.Ieee.{nan};
+ghost use lib.ListN.{length, take};
 ghost use Rattle.lists.specs.Lists.{tab, put, image, setImage};
-ghost use Rattle.floats.specs.F32.{_⊗_, _⊘_, 0f, 2f};
-ghost use Rattle.floats.specs.Sums.{sumTo};
-ghost use Rattle.blur.specs.Kernel.{sigmaOf, offOf, weightOf, kernelOf};
 ghost use Rattle.blur.specs.Blur.{heldOf, rowsOf, columnsOf};
 ghost use Rattle.blur.specs.Pass.{addedOf, spotOf, tapsOf, passOf};
-
-// 2 * sigma * sigma.
-fn spread(ksize: usize) -> f32
-    requires { ⌜ ksize ≤ 31 ⌝ }
-    ensures { λ d. ⌜ d ≡ 2f ⊗ sigmaOf ksize ⊗ sigmaOf ksize ⌝ }
-{
-    let sigma = 0.3 * ((numbers::to_f32(ksize) - 1.0) * 0.5 - 1.0) + 0.8;
-    2.0 * sigma * sigma
-}
-
-// How far i is from the radius.
-fn off(ksize: usize, i: usize) -> usize
-    requires { ⌜ (ksize ≤ 31) × (i < ksize) ⌝ }
-    ensures { λ x. ⌜ (x ≡ offOf ksize i) × (x ≤ 15) ⌝ }
-{
-    let radius = ksize / 2;
-    if i < radius { radius - i } else { i - radius }
-}
-
-// The weight of the place i, before it is divided.
-fn weight(ksize: usize, d: f32, i: usize) -> f32
-    requires { ⌜ (3 ≤ ksize) × (ksize ≤ 31) × (ksize % 2 ≡ 1) × (i < ksize) × (d ≡ 2f ⊗ sigmaOf ksize ⊗ sigmaOf ksize) ⌝ }
-    ensures { λ v. ⌜ v ≡ weightOf ksize i ⌝ }
-{
-    let x = off(ksize, i);
-    series::exp_neg(numbers::to_f32(x * x) / d)
-}
-
-// The front of `k` becomes the weights, before they are divided; the answer is their sum.
-fn weights(ksize: usize, d: f32, k: &mut [f32]) -> f32
-    requires { ⌜ (3 ≤ ksize) × (ksize ≤ 31) × (ksize % 2 ≡ 1) × (d ≡ 2f ⊗ sigmaOf ksize ⊗ sigmaOf ksize) × (ksize ≤ length (now k)) ⌝ }
-    ensures { λ sum. ⌜ (sum ≡ sumTo (weightOf ksize) ksize) × (now (k .exit) ≡ put (now (k .entry)) 0 (tab ksize (weightOf ksize))) ⌝ }
-{
-    let mut sum = 0.0f32;
-    let mut i = 0;
-    while i < ksize {
-        let v = weight(ksize, d, i);
-        k[i] = v;
-        sum = sum + v;
-        i += 1;
-    }
-    sum
-}
-
-// Each of the first n numbers of `k` over the sum.
-fn divide(n: usize, sum: f32, k: &mut [f32])
-    requires { ⌜ n ≤ length (now k) ⌝ }
-    ensures { λ _. ⌜ now (k .exit) ≡ put (now (k .entry)) 0 (tab n (λ i. getD (now (k .entry)) i nan ⊘ sum)) ⌝ }
-{
-    let mut i = 0;
-    while i < n {
-        let v = k[i] / sum;
-        k[i] = v;
-        i += 1;
-    }
-}
-
-// The front of `k` becomes the kernel of an odd size.
-pub fn gaussian_kernel(ksize: usize, k: &mut [f32])
-    requires { ⌜ (3 ≤ ksize) × (ksize ≤ 31) × (ksize % 2 ≡ 1) × (ksize ≤ length (now k)) ⌝ }
-    ensures { λ _. ⌜ now (k .exit) ≡ put (now (k .entry)) 0 (kernelOf ksize) ⌝ }
-{
-    let d = spread(ksize);
-    let sum = weights(ksize, d, k);
-    divide(ksize, sum, k);
-}
 
 // To each of the `len` numbers from `dst` on, the one as far behind `src` times the weight is added.
 fn add_run(part: &mut [f32], dst: usize, src: usize, len: usize, weight: f32)
@@ -215,7 +145,7 @@ pub fn gaussian_blur_separable(part: &mut [f32], w: usize, h: usize, ksize: usiz
         (setImage (w * h) 1 (rowsOf ksize w h (image (w * h) 0 (now (part .entry)))) (now (part .entry))) ⌝ }
 {
     let mut ks = [0.0f32; 31];
-    gaussian_kernel(ksize, &mut ks);
+    kernel::gaussian_kernel(ksize, &mut ks);
     blur_pass(Along::Rows, part, &ks[..ksize], w, h, ksize);
     let n = w * h;
     blur_pass(Along::Columns, &mut part[n..], &ks[..ksize], w, h, ksize);

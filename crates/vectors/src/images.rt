@@ -45,7 +45,7 @@ fn kernel(words: &[u64]) -> bool {
         return false;
     }
     let mut k = [0.0f32; 31];
-    blur::gaussian_kernel(ksize, &mut k);
+    kernel::gaussian_kernel(ksize, &mut k);
     same_floats(words, 2, ksize, &k, 0)
 }
 

@@ -4,8 +4,8 @@ use native.Mathlib.Omega.{arith}
 use borrow.Author.Needs.{needs}
 use denote.Ref.{now}
 use lib.ListN.{length, take, length-take, length-drop}
-use Rattle.blur.specs.Kernel.{kernelOf}
-use Rattle.blur.proofs.Kernels.{length-kernel}
+use Rattle.kernel.specs.Kernel.{kernelOf}
+use Rattle.kernel.proofs.Kernels.{length-kernel}
 use Rattle.blur.proofs.Passes.{front-is, both}
 use Rattle.blur.proofs.gaussian_blur_separable.Statement.{statement}
 use Rattle.blur.proofs.gaussian_blur_separable.Tie as tie

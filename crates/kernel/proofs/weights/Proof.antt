@@ -1,4 +1,4 @@
--- `blur::weights` meets its contract. The loop's invariant: the first i weights are stored and summed. The measure is what is left of them. Assumes nothing.
+-- `kernel::weights` meets its contract. The loop's invariant: the first i weights are stored and summed. The measure is what is left of them. Assumes nothing.
 use mathlib.Core.Path.{_≡_, refl, sym, ap, _∙_}
 use Prim.Native.Nat.{_-_, _≤_}
 use native.Mathlib.Omega.{arith}
@@ -11,9 +11,9 @@ use Rattle.lists.proofs.Fill.{fill-none, front-more}
 use Rattle.floats.specs.F32.{_⊕_}
 use Rattle.floats.specs.Sums.{sumTo}
 use Rattle.floats.proofs.Sums.{to-none, to-more}
-use Rattle.blur.specs.Kernel.{weightOf}
-use Rattle.blur.proofs.weights.Statement.{statement}
-use Rattle.blur.proofs.weights.Tie as tie
+use Rattle.kernel.specs.Kernel.{weightOf}
+use Rattle.kernel.proofs.weights.Statement.{statement}
+use Rattle.kernel.proofs.weights.Tie as tie
 
 abbrev Inv-loop : tie.InvT-loop
 Inv-loop ksize d k₀ sum₀ i₀ k sum i = (i ≤ ksize) × (length k ≡ length k₀) × (sum ≡ sumTo (weightOf ksize) i) × (k ≡ put k₀ 0 (tab i (weightOf ksize)))

@@ -11,15 +11,16 @@ use lib.Ieee.{Float, nan, add, sub, mul, div, round, ofInt, ofBits}
 use Rattle.lists.specs.Lists.{tab, put}
 use Rattle.lists.specs.Marked.{overMarked}
 use Rattle.lists.proofs.Grow.{length-tab, tab-ext}
-use Rattle.floats.specs.Bound.{UpTo}
+use Rattle.floats.specs.Bound.{UpTo, Within}
 use Rattle.floats.specs.F32.{_⊗_, _⊘_, f32, 2f}
 use Rattle.floats.specs.Sums.{sumOver, sumTo}
 use Rattle.series.specs.Recurrence.{stepsOf}
 use Rattle.series.specs.Series.{yOf, expNegOf}
-use Rattle.blur.specs.Kernel.{sigmaOf, weightOf, kernelOf}
+use Rattle.kernel.specs.Kernel.{sigmaOf, weightOf, kernelOf}
 use Rattle.lists.proofs.Fill.{fill-again, getD-fill}
 use Rattle.lists.proofs.Every.{every, every-at}
 use Rattle.floats.proofs.Upward.{isUpTo, up-to-of-test}
+use Rattle.floats.proofs.Values.{upto-within}
 
 pub odd-is : (ksize : ℕ) → ksize % 2 ≡ 1 → ksize ≡ 2 * (ksize / 2) + 1
 odd-is ksize odd = omega arith
@@ -53,6 +54,10 @@ weight-up-to ksize i few odd l =
     up-to-of-test 1 1 (getD (kernelOf ksize) i nan)
     (every-at ksize (λ j. isUpTo 1 1 (getD (kernelOf ksize) j nan)) i
     (subst (λ (k : ℕ). T (weightsPass k)) (sym (odd-is ksize odd)) (every-at 16 (λ r. weightsPass (2 * r + 1)) (ksize / 2) kernels (omega arith))) l)
+
+module _ (ksize : ℕ) (few : ksize ≤ 31) (odd : ksize % 2 ≡ 1) where
+  pub weight-within : (i : ℕ) → i < ksize → Within (getD (kernelOf ksize) i nan) 1 1
+  weight-within i l = upto-within (getD (kernelOf ksize) i nan) 1 1 (weight-up-to ksize i few odd l)
 
 pub length-kernel : (ksize : ℕ) → length (kernelOf ksize) ≡ ksize
 unfolding kernelOf

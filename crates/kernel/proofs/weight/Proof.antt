@@ -1,4 +1,4 @@
--- `blur::weight` meets its contract. Assumes nothing.
+-- `kernel::weight` meets its contract. Assumes nothing.
 use mathlib.Core.Path.{_≡_, sym, ap, _∙_, subst}
 use Prim.Native.Nat.{_*_, _≤_}
 use native.Mathlib.Nat.{mul-le-mul, le-trans}
@@ -9,10 +9,10 @@ use lib.Ieee.{Float}
 use Rattle.floats.specs.Bound.{UpTo}
 use Rattle.floats.specs.F32.{_⊘_}
 use Rattle.series.specs.Series.{expNegOf}
-use Rattle.blur.specs.Kernel.{weightOf}
-use Rattle.blur.proofs.Kernels.{exponentOf, exponent-up-to}
-use Rattle.blur.proofs.weight.Statement.{statement}
-use Rattle.blur.proofs.weight.Tie as tie
+use Rattle.kernel.specs.Kernel.{weightOf}
+use Rattle.kernel.proofs.Kernels.{exponentOf, exponent-up-to}
+use Rattle.kernel.proofs.weight.Statement.{statement}
+use Rattle.kernel.proofs.weight.Tie as tie
 
 off-requires : tie.Need-off-requires
 off-requires c κs = search needs

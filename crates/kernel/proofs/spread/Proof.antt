@@ -1,11 +1,11 @@
--- `blur::spread` meets its contract. Assumes nothing.
+-- `kernel::spread` meets its contract. Assumes nothing.
 use mathlib.Core.Path.{ap}
 use borrow.Author.Needs.{needs}
 use lib.Ieee.{Float, binary32, ofBits}
 use Rattle.floats.specs.F32.{_⊕_, _⊖_, _⊗_, 1f, half, 2f}
-use Rattle.blur.specs.Kernel.{sigmaOf}
-use Rattle.blur.proofs.spread.Statement.{statement}
-use Rattle.blur.proofs.spread.Tie as tie
+use Rattle.kernel.specs.Kernel.{sigmaOf}
+use Rattle.kernel.proofs.spread.Statement.{statement}
+use Rattle.kernel.proofs.spread.Tie as tie
 
 to-f32-requires : tie.Need-to-f32-requires
 to-f32-requires c κs = search needs

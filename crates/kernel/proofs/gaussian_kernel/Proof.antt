@@ -1,10 +1,10 @@
--- `blur::gaussian_kernel` meets its contract. Assumes nothing.
+-- `kernel::gaussian_kernel` meets its contract. Assumes nothing.
 use mathlib.Core.Path.{_∙_}
 use borrow.Author.Needs.{needs}
 use denote.Ref.{now}
-use Rattle.blur.proofs.Kernels.{kernel-is}
-use Rattle.blur.proofs.gaussian_kernel.Statement.{statement}
-use Rattle.blur.proofs.gaussian_kernel.Tie as tie
+use Rattle.kernel.proofs.Kernels.{kernel-is}
+use Rattle.kernel.proofs.gaussian_kernel.Statement.{statement}
+use Rattle.kernel.proofs.gaussian_kernel.Tie as tie
 
 spread-requires : tie.Need-spread-requires
 spread-requires c κs = search needs

@@ -1,4 +1,4 @@
--- `blur::divide` meets its contract. The loop's invariant: the first i numbers are divided. The measure is what is left of them. Assumes nothing.
+-- `kernel::divide` meets its contract. The loop's invariant: the first i numbers are divided. The measure is what is left of them. Assumes nothing.
 use mathlib.Core.Path.{_≡_, refl, ap}
 use Prim.Native.Nat.{ℕ, _-_, _≤_}
 use native.Mathlib.Omega.{arith}
@@ -9,8 +9,8 @@ use lib.Ieee.{Float, nan}
 use Rattle.lists.specs.Lists.{tab, put}
 use Rattle.lists.proofs.Fill.{fill-none, fill-after, front-more}
 use Rattle.floats.specs.F32.{_⊘_}
-use Rattle.blur.proofs.divide.Statement.{statement}
-use Rattle.blur.proofs.divide.Tie as tie
+use Rattle.kernel.proofs.divide.Statement.{statement}
+use Rattle.kernel.proofs.divide.Tie as tie
 
 abbrev Inv-loop : tie.InvT-loop
 Inv-loop n sum k₀ i₀ k i = (i ≤ n) × (length k ≡ length k₀) × (k ≡ put k₀ 0 (tab i (λ j. getD k₀ j nan ⊘ sum)))
