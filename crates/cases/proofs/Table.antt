@@ -20,7 +20,8 @@ use Rattle.prepare.specs.Prepared.{grayOf, preparedOf}
 use Rattle.prepare.specs.Prepared as prepare
 use Rattle.stats.specs.Stats.{meanOf, centredOf, productOf, statsOf}
 use Rattle.inverse.specs.Inverse.{overOf, inverseOf, dotOf, timesOf}
-use Rattle.solve.specs.Solve.{steepOf, projOf, hessianOf, errorOf, movedOf, updateOf, solveOf}
+use Rattle.sums.specs.Sums.{steepOf, projOf, hessianOf, errorOf}
+use Rattle.solve.specs.Solve.{movedOf, updateOf, solveOf}
 use Rattle.verdict.specs.Verdict.{verdictOf}
 use Rattle.pass.specs.Pass.{onward, weighedOf, passOf}
 use Rattle.runs.specs.Runs.{start, landed, next, after, outcomeOf}

@@ -15,7 +15,8 @@ use Rattle.pose.specs.declared.Pose.{Pose}
 use Rattle.warp.specs.Warp.{marksOf, warpOf}
 use Rattle.stats.specs.Stats.{centredOf, statsOf}
 use Rattle.stats.specs.declared.Stats.{Stats}
-use Rattle.solve.specs.Solve.{steepOf, solveOf}
+use Rattle.sums.specs.Sums.{steepOf}
+use Rattle.solve.specs.Solve.{solveOf}
 use Rattle.solve.specs.declared.Step.{Step}
 use Rattle.verdict.specs.Verdict.{verdictOf}
 use Rattle.verdict.specs.declared.Verdict.{Verdict}

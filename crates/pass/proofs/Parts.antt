@@ -14,9 +14,10 @@ use Rattle.pose.specs.declared.Pose.{Pose}
 use Rattle.warp.specs.Warp.{warpOf}
 use Rattle.stats.specs.Stats.{centredOf, statsOf}
 use Rattle.stats.specs.declared.Stats.{Stats}
-use Rattle.solve.specs.Solve.{steepOf, solveOf}
+use Rattle.sums.specs.Sums.{steepOf}
+use Rattle.solve.specs.Solve.{solveOf}
 use Rattle.solve.specs.declared.Step.{Step}
-use Rattle.solve.proofs.Ends.{length-steep}
+use Rattle.sums.proofs.Rows.{length-steep}
 use Rattle.pass.proofs.Sizes.{length-warp, length-centred}
 
 module _ (n j : ℕ) (xs : List Float) where

@@ -12,11 +12,12 @@ use Rattle.pose.specs.declared.Pose.{Pose}
 use Rattle.warp.specs.Warp.{marksOf, warpOf}
 use Rattle.stats.specs.Stats.{centredOf}
 use Rattle.stats.specs.declared.Stats.{Stats}
-use Rattle.solve.specs.Solve.{steepOf, solveOf}
+use Rattle.sums.specs.Sums.{steepOf}
+use Rattle.solve.specs.Solve.{solveOf}
 use Rattle.solve.specs.declared.Step.{Step}
 use Rattle.pass.specs.Pass.{weighedOf}
 use Rattle.pass.specs.Kept.{Kept}
-use Rattle.solve.proofs.Ends.{length-steep}
+use Rattle.sums.proofs.Rows.{length-steep}
 use Rattle.pass.proofs.Sizes.{length-warp, length-centred}
 use Rattle.pass.proofs.Stays.{kept-sets, kept-kept}
 

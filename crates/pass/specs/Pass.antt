@@ -12,7 +12,8 @@ use Rattle.verdict.specs.declared.Verdict.{Verdict}
 use Rattle.verdict.specs.declared.Verdict.the-variants.{Bad, Settled, Unsettled}
 use Rattle.pose.specs.Pose.{mapOf}
 use Rattle.pose.specs.declared.Pose.{Pose}
-use Rattle.solve.specs.Solve.{steepOf, solveOf}
+use Rattle.sums.specs.Sums.{steepOf}
+use Rattle.solve.specs.Solve.{solveOf}
 use Rattle.solve.specs.declared.Step.{Step}
 use Rattle.solve.specs.declared.Step.the-variants.{Refuse, Stop}
 

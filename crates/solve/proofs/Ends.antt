@@ -3,14 +3,12 @@ use Prim.Native.Nat.{ℕ, _*_, _≤_}
 use mathlib.Core.Path.{_≡_, refl, sym, ap, ap₂, _∙_}
 use mathlib.Core.Bool.{Bool, true, false}
 use mathlib.Core.List.{List}
-use native.Mathlib.Nat.{mul-comm}
 use native.Mathlib.Omega.{arith}
 use lib.ListN.{length}
 use lib.Ieee.{Float, le}
 use lib.Ieee.Scale.{finite}
 use Rattle.lists.specs.Lists.{image, setImage}
 use Rattle.lists.specs.Marked.{pick}
-use Rattle.lists.proofs.Grow.{length-grid}
 use Rattle.lists.proofs.Cases.{pick-true, pick-false}
 use Rattle.lists.proofs.Images.{image-set, image-set-other}
 use Rattle.floats.specs.F32.{_⊖_, _⊗_, _⊘_, 0f}
@@ -20,7 +18,9 @@ use Rattle.inverse.specs.declared.Vector3.{Vector3}
 use Rattle.inverse.specs.declared.Matrix3.{Matrix3}
 use Rattle.inverse.specs.declared.Inverse.{Inverse}
 use Rattle.pose.specs.declared.Pose.{Pose}
-use Rattle.solve.specs.Solve.{steepOf, projOf, hessianOf, errorOf, movedOf, updateOf, solveOf}
+use Rattle.sums.specs.Sums.{steepOf, projOf, hessianOf, errorOf}
+use Rattle.sums.proofs.Rows.{length-steep}
+use Rattle.solve.specs.Solve.{movedOf, updateOf, solveOf}
 use Rattle.solve.specs.declared.Step.{Step}
 use Rattle.solve.specs.declared.Lambda.{Lambda}
 use Rattle.solve.specs.declared.Lambda.the-variants.{Is, Refused}
@@ -109,10 +109,6 @@ module _ (ms : List ℕ) (n : ℕ) (p : Pose) (j0 j1 j2 tz iz : List Float) (s :
       one-lambda l k ep delta ee ed = ap (λ (d : Vector3). movedOf p d rho) (ed ∙ ap (timesOf h) ee) ∙ sym (ap (answer to-move) k) ∙ by-lambda
 
 -- ---- the part with j0 in its image 5
-pub length-steep : (w h : ℕ) (theta : Float) (gx gy : List Float) → length (steepOf w h theta gx gy) ≡ w * h
-unfolding steepOf
-length-steep w h theta gx gy = length-grid w h _ ∙ mul-comm h w
-
 module _ (ms : List ℕ) (p : Pose) (s : Stats) (rho : Float) (w h : ℕ) (theta : Float) (gx gy xs ys : List Float) (is-ys : ys ≡ setImage (w * h) 5 (steepOf w h theta gx gy) xs) (fits : 6 * (w * h) ≤ length xs) where
   j0-there : image (w * h) 5 ys ≡ steepOf w h theta gx gy
   j0-there = ap (image (w * h) 5) is-ys ∙ image-set (w * h) 5 xs _ (length-steep w h theta gx gy) (omega arith)

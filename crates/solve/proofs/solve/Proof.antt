@@ -4,7 +4,8 @@ use mathlib.Core.Path.{_≡_, _∙_}
 use native.Mathlib.Omega.{arith}
 use borrow.Author.Needs.{needs}
 use Rattle.lists.specs.Lists.{image}
-use Rattle.solve.specs.Solve.{steepOf, solveOf}
+use Rattle.sums.specs.Sums.{steepOf}
+use Rattle.solve.specs.Solve.{solveOf}
 use Rattle.solve.proofs.Ends.{no-inverse, no-lambda, one-lambda, solve-back}
 use Rattle.solve.proofs.solve.Statement.{statement}
 use Rattle.solve.proofs.solve.Tie as tie

@@ -17,8 +17,8 @@ use Rattle.lists.proofs.Images.{getD-place}
 use Rattle.stats.proofs.Turns.{turn-marked, turn-passed, product-part}
 use Rattle.inverse.specs.declared.Vector3.{Vector3}
 use Rattle.inverse.specs.declared.Matrix3.{Matrix3}
-use Rattle.solve.specs.Solve.{projOf, hessianOf, errorOf}
-use Rattle.solve.specs.declared.Upper.{Upper}
+use Rattle.sums.specs.Sums.{projOf, hessianOf, errorOf}
+use Rattle.sums.specs.declared.Upper.{Upper}
 use Rattle.floats.proofs.Products.{times-comm}
 
 -- a sum of products is the same either way round, so h is symmetric

@@ -2,16 +2,17 @@
 use Prim.Native.Nat.{ℕ, _+_, _*_, _≤_, _<_}
 use mathlib.Core.Path.{_≡_, ap, _∙_}
 use mathlib.Core.List.{List}
+use native.Mathlib.Nat.{mul-comm}
 use native.Mathlib.Omega.{arith}
 use lib.ListN.{length, getD, set}
 use lib.Ieee.{Float, nan, neg}
 use Rattle.lists.specs.Lists.{tab, grid, put, image, setImage}
-use Rattle.lists.proofs.Grow.{tab-ext}
+use Rattle.lists.proofs.Grow.{tab-ext, length-grid}
 use Rattle.lists.proofs.Fill.{fill-more, fill-before, rows-before, rows-more}
 use Rattle.floats.specs.F32.{_⊕_, _⊖_, _⊗_, f32}
 use Rattle.lists.proofs.Images.{getD-place}
 use Rattle.series.specs.Series.{cosOf, sinOf}
-use Rattle.solve.specs.Solve.{steepOf}
+use Rattle.sums.specs.Sums.{steepOf}
 
 -- gx * (-(x * st) - yc) + gy * (x * ct - ys)
 abbrev pub slope : Float → Float → Float → Float → Float → Float → Float → Float
@@ -56,3 +57,7 @@ module _ (xs : List Float) (n w : ℕ) (ct st : Float) where
       p ≡ setImage n 5 (steepOf w h theta (image n 0 xs) (image n 1 xs)) xs
   unfolding setImage steepOf
   steep-end h theta ec es p e = rw (ec, es) at e
+
+pub length-steep : (w h : ℕ) (theta : Float) (gx gy : List Float) → length (steepOf w h theta gx gy) ≡ w * h
+unfolding steepOf
+length-steep w h theta gx gy = length-grid w h _ ∙ mul-comm h w

@@ -1,4 +1,4 @@
--- `solve::steep` meets its contract. The loop's invariant: the first y rows stand in image 5, and nothing else has changed. Assumes nothing.
+-- `sums::steep` meets its contract. The loop's invariant: the first y rows stand in image 5, and nothing else has changed. Assumes nothing.
 use Prim.Native.Nat.{_+_, _-_, _*_, _≤_}
 use mathlib.Core.Path.{_≡_, refl}
 use native.Mathlib.Omega.{arith}
@@ -6,9 +6,9 @@ use borrow.Author.Needs.{needs}
 use lib.ListN.{length}
 use Rattle.lists.specs.Lists.{grid, put}
 use Rattle.lists.proofs.Fill.{rows-none, row-in}
-use Rattle.solve.proofs.Rows.{steep-rule, row-more, steep-end}
-use Rattle.solve.proofs.steep.Statement.{statement}
-use Rattle.solve.proofs.steep.Tie as tie
+use Rattle.sums.proofs.Rows.{steep-rule, row-more, steep-end}
+use Rattle.sums.proofs.steep.Statement.{statement}
+use Rattle.sums.proofs.steep.Tie as tie
 
 abbrev Inv-loop : tie.InvT-loop
 Inv-loop part₀ w h theta n ct st y₀ part y = (y ≤ h) × (length part ≡ length part₀) × (part ≡ put part₀ (5 * n) (grid w y (steep-rule part₀ n w ct st)))

@@ -1,4 +1,4 @@
--- `solve::project` meets its contract. The loop's invariant: the twelve sums are those over the marked places below i. Assumes nothing.
+-- `sums::project` meets its contract. The loop's invariant: the twelve sums are those over the marked places below i. Assumes nothing.
 use Prim.Native.Nat.{_-_, _≤_, _<_}
 use mathlib.Core.Path.{_≡_, refl, sym, _∙_}
 use native.Mathlib.Omega.{arith}
@@ -8,9 +8,9 @@ use lib.Ieee.{nan}
 use lib.ListN.{getD}
 use Rattle.lists.specs.Lists.{image}
 use Rattle.lists.proofs.Images.{getD-image}
-use Rattle.solve.proofs.Folds.{projTo, proj-none, proj-marked, proj-passed, proj-end, upperTo, upper-none, upper-marked, upper-passed, upper-end}
-use Rattle.solve.proofs.project.Statement.{statement}
-use Rattle.solve.proofs.project.Tie as tie
+use Rattle.sums.proofs.Folds.{projTo, proj-none, proj-marked, proj-passed, proj-end, upperTo, upper-none, upper-marked, upper-passed, upper-end}
+use Rattle.sums.proofs.project.Statement.{statement}
+use Rattle.sums.proofs.project.Tie as tie
 
 abbrev Inv-loop : tie.InvT-loop
 Inv-loop part marks n tz iz h₀ ip₀ tp₀ i₀ h ip tp i = (i ≤ n) × (h ≡ upperTo marks n part i) × (ip ≡ projTo marks n part (λ k. getD (image n 4 part) k nan) i) × (tp ≡ projTo marks n part (λ k. getD (image n 3 part) k nan) i)

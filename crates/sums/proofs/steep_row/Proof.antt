@@ -1,4 +1,4 @@
--- `solve::steep_row` meets its contract. The loop's invariant: the first x numbers of the row stand, and nothing else has changed. Assumes nothing.
+-- `sums::steep_row` meets its contract. The loop's invariant: the first x numbers of the row stand, and nothing else has changed. Assumes nothing.
 use Prim.Native.Nat.{_+_, _-_, _*_, _≤_}
 use mathlib.Core.Path.{_≡_, refl}
 use native.Mathlib.Omega.{arith}
@@ -6,9 +6,9 @@ use borrow.Author.Needs.{needs}
 use lib.ListN.{length, length-set}
 use Rattle.lists.specs.Lists.{tab, put}
 use Rattle.lists.proofs.Fill.{fill-none}
-use Rattle.solve.proofs.Rows.{row-rule, pixel-more}
-use Rattle.solve.proofs.steep_row.Statement.{statement}
-use Rattle.solve.proofs.steep_row.Tie as tie
+use Rattle.sums.proofs.Rows.{row-rule, pixel-more}
+use Rattle.sums.proofs.steep_row.Statement.{statement}
+use Rattle.sums.proofs.steep_row.Tie as tie
 
 abbrev Inv-loop : tie.InvT-loop
 Inv-loop part₀ n row w ct st yc ys gy to x₀ part x = (x ≤ w) × (length part ≡ length part₀) × (part ≡ put part₀ (5 * n + row) (tab x (row-rule part₀ n row ct st yc ys)))

@@ -1,4 +1,4 @@
--- `solve::errors` meets its contract. The loop's invariant: the three sums are those over the marked places below i. Assumes nothing.
+-- `sums::errors` meets its contract. The loop's invariant: the three sums are those over the marked places below i. Assumes nothing.
 use Prim.Native.Nat.{_-_, _≤_, _<_}
 use mathlib.Core.Path.{_≡_, sym, ap₂, _∙_}
 use native.Mathlib.Omega.{arith}
@@ -9,9 +9,9 @@ use lib.ListN.{getD}
 use Rattle.lists.specs.Lists.{image}
 use Rattle.lists.proofs.Images.{getD-image}
 use Rattle.floats.specs.F32.{_⊖_, _⊗_}
-use Rattle.solve.proofs.Folds.{projTo, proj-none, proj-marked, proj-passed, proj-end, error-at}
-use Rattle.solve.proofs.errors.Statement.{statement}
-use Rattle.solve.proofs.errors.Tie as tie
+use Rattle.sums.proofs.Folds.{projTo, proj-none, proj-marked, proj-passed, proj-end, error-at}
+use Rattle.sums.proofs.errors.Statement.{statement}
+use Rattle.sums.proofs.errors.Tie as tie
 
 abbrev Inv-loop : tie.InvT-loop
 Inv-loop part marks n lambda tz iz ep₀ i₀ ep i = (i ≤ n) × (ep ≡ projTo marks n part (λ k. lambda ⊗ getD (image n 3 part) k nan ⊖ getD (image n 4 part) k nan) i)
