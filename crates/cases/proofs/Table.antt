@@ -12,7 +12,8 @@ use Rattle.settings.specs.Sides.{scaledOf, sideOf, resizedOf}
 use Rattle.resize.specs.Resize.{placeOf, firstOf, tapOf, byteOf, blendOf, sampleOf, resizeOf}
 use Rattle.gradients.specs.Gradients.{gradientX, gradientY}
 use Rattle.pose.specs.Pose.{mapOf, isPose, identity, turnedOf, posedMatrix, matrixOf, posed}
-use Rattle.warp.specs.Warp.{sxOf, syOf, inside, markedAt, marksOf, warpOf}
+use Rattle.places.specs.Point.{sxOf, syOf, inside, markedAt, marksOf}
+use Rattle.warp.specs.Warp.{warpOf}
 use Rattle.warp.specs.Warp as warp
 use Rattle.checks.specs.Checks.{sizeOf, roomOf, settledOf, checkOf}
 use Rattle.blur.specs.Blur.{blurOf}

@@ -17,7 +17,7 @@ use Rattle.marks.specs.Marks.{countOn}
 use Rattle.pose.specs.Pose.{mapOf, matrixOf}
 use Rattle.pose.specs.declared.Answer.the-variants.{Posed, Refused}
 use Rattle.pose.specs.declared.Outcome.{Outcome}
-use Rattle.warp.specs.Warp.{marksOf}
+use Rattle.places.specs.Point.{marksOf}
 use Rattle.alignment.specs.Aligned.{alignedOf}
 use Rattle.driver.specs.Pins.{pinsOf}
 

@@ -22,7 +22,7 @@ use Rattle.marks.specs.Marks.{on, countOn}
 use Rattle.pose.specs.Pose.{mapOf}
 use Rattle.pose.specs.declared.Pose.{Pose}
 use Rattle.pose.specs.declared.Outcome.{Outcome}
-use Rattle.warp.specs.Warp.{marksOf}
+use Rattle.places.specs.Point.{marksOf}
 use Rattle.stats.specs.Stats.{meanOf, centredOf}
 use Rattle.solve.specs.declared.Step.{Step}
 use Rattle.pass.specs.Pass.{weighedOf, passOf}

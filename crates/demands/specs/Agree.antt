@@ -12,7 +12,7 @@ use Rattle.prepare.specs.Prepared.{preparedOf}
 use Rattle.checks.specs.Checks.{sizeOf}
 use Rattle.marks.specs.Marks.{on}
 use Rattle.pose.specs.Pose.{mapOf}
-use Rattle.warp.specs.Warp.{marksOf}
+use Rattle.places.specs.Point.{marksOf}
 use Rattle.runs.specs.Runs.{Run, going, settled, refused, after}
 use Rattle.alignment.specs.Aligned.{passIn}
 

@@ -12,7 +12,8 @@ use Rattle.marks.specs.Marks.{countOn}
 use Rattle.pose.specs.Pose.{mapOf}
 use Rattle.pose.specs.declared.Map.{Map}
 use Rattle.pose.specs.declared.Pose.{Pose}
-use Rattle.warp.specs.Warp.{marksOf, warpOf}
+use Rattle.places.specs.Point.{marksOf}
+use Rattle.warp.specs.Warp.{warpOf}
 use Rattle.stats.specs.Stats.{centredOf, statsOf}
 use Rattle.stats.specs.declared.Stats.{Stats}
 use Rattle.sums.specs.Sums.{steepOf}

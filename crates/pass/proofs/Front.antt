@@ -8,7 +8,7 @@ use Rattle.lists.specs.Lists.{put}
 use Rattle.lists.proofs.Put.{length-put, drop-put, take-put-front}
 use Rattle.marks.specs.Marks.{countOn}
 use Rattle.pose.specs.declared.Map.{Map}
-use Rattle.warp.specs.Warp.{marksOf}
+use Rattle.places.specs.Point.{marksOf}
 use Rattle.pass.specs.Kept.{KeptMarks}
 use Rattle.pass.proofs.Sizes.{length-marks}
 

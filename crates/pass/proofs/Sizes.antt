@@ -7,7 +7,8 @@ use lib.ListN.{length}
 use lib.Ieee.{Float}
 use Rattle.lists.proofs.Grow.{length-tab, length-grid}
 use Rattle.pose.specs.declared.Map.{Map}
-use Rattle.warp.specs.Warp.{marksOf, warpOf}
+use Rattle.places.specs.Point.{marksOf}
+use Rattle.warp.specs.Warp.{warpOf}
 use Rattle.stats.specs.Stats.{centredOf}
 
 pub length-warp : (src : List Float) (map : Map) (w h : ℕ) → length (warpOf src map w h) ≡ w * h

@@ -9,7 +9,8 @@ use Rattle.lists.specs.Lists.{image, setImage}
 use Rattle.lists.proofs.Sets.{Sets, Fits, image-spared, image-later}
 use Rattle.pose.specs.declared.Map.{Map}
 use Rattle.pose.specs.declared.Pose.{Pose}
-use Rattle.warp.specs.Warp.{marksOf, warpOf}
+use Rattle.places.specs.Point.{marksOf}
+use Rattle.warp.specs.Warp.{warpOf}
 use Rattle.stats.specs.Stats.{centredOf}
 use Rattle.stats.specs.declared.Stats.{Stats}
 use Rattle.sums.specs.Sums.{steepOf}

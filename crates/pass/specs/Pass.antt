@@ -5,7 +5,8 @@ use lib.Dec.{ltb}
 use lib.Ieee.{Float}
 use Rattle.lists.specs.Marked.{pick}
 use Rattle.marks.specs.Marks.{countOn}
-use Rattle.warp.specs.Warp.{marksOf, warpOf}
+use Rattle.places.specs.Point.{marksOf}
+use Rattle.warp.specs.Warp.{warpOf}
 use Rattle.stats.specs.Stats.{centredOf, statsOf}
 use Rattle.verdict.specs.Verdict.{verdictOf}
 use Rattle.verdict.specs.declared.Verdict.{Verdict}

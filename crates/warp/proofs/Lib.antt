@@ -1,4 +1,3 @@
 pub mod Pixel
-pub mod Places
 pub mod Rows
 pub mod Frame

@@ -13,14 +13,16 @@ use Rattle.lists.specs.Marked.{pick}
 use Rattle.lists.proofs.Cases.{pick-agree}
 use Rattle.lists.proofs.Fill.{Spaced, fills-none, fills-more, take-fills, getD-fill}
 use Rattle.lists.proofs.Grow.{tab-ext}
+use Rattle.lists.proofs.Images.{image-agree}
 use Rattle.marks.specs.Marks.{on}
 use Rattle.floats.specs.F32.{0f}
 use Rattle.pose.specs.declared.Map.{Map}
-use Rattle.warp.specs.Warp.{sxOf, syOf, markedAt}
-use Rattle.warp.specs.Places.{PlaceAt, markOf, PlacesOf, blendOf, ThreeOf, Reach, readOf, threeRows, pixelOf, RowOf}
+use Rattle.places.specs.Point.{sxOf, syOf, markedAt}
+use Rattle.places.specs.Places.{PlaceAt, markOf, PlacesOf}
+use Rattle.places.proofs.Point.{spot-in}
+use Rattle.warp.specs.Rows.{blendOf, ThreeOf, Reach, readOf, threeRows, pixelOf, RowOf}
 use Rattle.warp.specs.declared.Three.{Three}
-use Rattle.lists.proofs.Images.{image-agree}
-use Rattle.warp.proofs.Pixel.{sample-is, spot-in}
+use Rattle.warp.proofs.Pixel.{sample-is}
 
 -- images 0 to 2 stay where the front of the list does
 pub sources-kept : (n : ℕ) (xs ys : List Float) → take (3 * n) ys ≡ take (3 * n) xs → (k : ℕ) → k < 3 → image n k ys ≡ image n k xs

@@ -1,2 +1,2 @@
-pub mod Places
+pub mod Rows
 pub mod Warp

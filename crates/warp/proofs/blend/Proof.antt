@@ -1,7 +1,7 @@
 -- `warp::blend` meets its contract. Assumes nothing.
 use borrow.Author.Needs.{needs}
 use mathlib.Core.Path.{refl}
-use Rattle.warp.specs.Places.{blendOf}
+use Rattle.warp.specs.Rows.{blendOf}
 use Rattle.warp.proofs.blend.Statement.{statement}
 use Rattle.warp.proofs.blend.Tie as tie
 

@@ -4,7 +4,7 @@ use native.Mathlib.Omega.{arith}
 use borrow.Author.Needs.{needs}
 use denote.Ref.{now}
 use lib.ListN.{length}
-use Rattle.warp.specs.Places.{Reach}
+use Rattle.warp.specs.Rows.{Reach}
 use Rattle.warp.proofs.Rows.{row-reach, row-of}
 use Rattle.warp.proofs.warp_row.Statement.{statement}
 use Rattle.warp.proofs.warp_row.Tie as tie

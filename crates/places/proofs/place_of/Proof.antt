@@ -1,4 +1,4 @@
--- `warp::place_of` meets its contract. Outside, the point is held to 0, so that its whole parts are small all the same. Assumes nothing.
+-- `places::place_of` meets its contract. Outside, the point is held to 0, so that its whole parts are small all the same. Assumes nothing.
 use Prim.Native.Nat.{_+_, _*_}
 use mathlib.Core.Path.{_≡_, ap, ap₂, _∙_}
 use mathlib.Core.Bool.{Bool}
@@ -9,11 +9,11 @@ use lib.Ieee.{Float, binary32, inUnsigned, toUnsigned}
 use Rattle.lists.specs.Marked.{pick}
 use Rattle.floats.specs.F32.{_⊕_, _⊖_, _⊗_, f32, 0f}
 use Rattle.numbers.proofs.Small.{Below}
-use Rattle.warp.specs.Warp.{inside, markedAt}
-use Rattle.warp.specs.Places.{indexOf}
-use Rattle.warp.proofs.Pixel.{heldX, heldY, held-x, held-y, spot-is, place-of}
-use Rattle.warp.proofs.place_of.Statement.{statement}
-use Rattle.warp.proofs.place_of.Tie as tie
+use Rattle.places.specs.Point.{inside, markedAt}
+use Rattle.places.specs.Places.{indexOf}
+use Rattle.places.proofs.Point.{heldX, heldY, held-x, held-y, spot-is, place-of}
+use Rattle.places.proofs.place_of.Statement.{statement}
+use Rattle.places.proofs.place_of.Tie as tie
 
 -- ---- the point, held to 0 outside
 abbrev marked : tie.Start → Bool

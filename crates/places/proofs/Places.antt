@@ -17,9 +17,9 @@ use Rattle.lists.proofs.Grow.{getD-grid}
 use Rattle.marks.specs.Marks.{countOn}
 use Rattle.marks.proofs.Count.{count-byte, count-le}
 use Rattle.pose.specs.declared.Map.{Map}
-use Rattle.warp.specs.Warp.{sxOf, syOf, markedAt, marksOf}
-use Rattle.warp.specs.Places.{PlaceAt, markOf, PlaceOf, Placed, PlacesOf}
-use Rattle.warp.specs.declared.Place.{Place}
+use Rattle.places.specs.Point.{sxOf, syOf, markedAt, marksOf}
+use Rattle.places.specs.Places.{PlaceAt, markOf, PlaceOf, Placed, PlacesOf}
+use Rattle.places.specs.declared.Place.{Place}
 
 -- ---- the marks
 module _ (map : Map) (w h x y : ℕ) where

@@ -1,8 +1,8 @@
--- `warp::byte` meets its contract. Assumes nothing.
+-- `places::byte` meets its contract. Assumes nothing.
 use mathlib.Core.Path.{sym}
 use Rattle.lists.proofs.Cases.{pick-true, pick-false}
-use Rattle.warp.proofs.byte.Statement.{statement}
-use Rattle.warp.proofs.byte.Tie as tie
+use Rattle.places.proofs.byte.Statement.{statement}
+use Rattle.places.proofs.byte.Tie as tie
 
 returns : tie.Need-returns
 returns c = sym (pick-true (c .before .args .within) _ _ (c .if1 .taken))

@@ -1,11 +1,11 @@
--- `warp::places_row` meets its contract. Assumes nothing.
+-- `places::places_row` meets its contract. Assumes nothing.
 use Prim.Native.Nat.{_-_}
 use native.Mathlib.Omega.{arith}
 use denote.Ref.{now}
 use borrow.Author.Needs.{needs}
-use Rattle.warp.proofs.Places.{PlacesHeld, places-start, places-turn, places-end, count-room}
-use Rattle.warp.proofs.places_row.Statement.{statement}
-use Rattle.warp.proofs.places_row.Tie as tie
+use Rattle.places.proofs.Places.{PlacesHeld, places-start, places-turn, places-end, count-room}
+use Rattle.places.proofs.places_row.Statement.{statement}
+use Rattle.places.proofs.places_row.Tie as tie
 
 abbrev Inv-loop : tie.InvT-loop
 Inv-loop spots₀ across₀ down₀ marks₀ map w h y found row count₀ x₀ spots across down marks count x =

@@ -1,13 +1,13 @@
--- `warp::is_inside` meets its contract: the flag of each `&&` is the conjunction of the tests so far. Assumes nothing.
+-- `places::is_inside` meets its contract: the flag of each `&&` is the conjunction of the tests so far. Assumes nothing.
 use mathlib.Core.Path.{_≡_, _∙_}
 use mathlib.Core.Bool.{_&&_}
 use mathlib.Core.Logic.{⊎-elim}
 use borrow.Author.Needs.{needs}
 use lib.Ieee.{le, lt}
 use Rattle.floats.specs.F32.{0f}
-use Rattle.warp.specs.Warp.{inside}
-use Rattle.warp.proofs.is_inside.Statement.{statement}
-use Rattle.warp.proofs.is_inside.Tie as tie
+use Rattle.places.specs.Point.{inside}
+use Rattle.places.proofs.is_inside.Statement.{statement}
+use Rattle.places.proofs.is_inside.Tie as tie
 
 two : (c : tie.Joined1) → let a = c .before .before .before .args in c .if1 .if2 ≡ (le 0f (a .sx) && le 0f (a .sy))
 two c = ⊎-elim (λ w. rw (w .0 .taken) (w .1)) (λ w. rw (w .0 .left) (w .1 ∙ w .0 .left)) (c .if1 .came)
