@@ -111,6 +111,18 @@ fn broken() -> Vec<(String, Vec<u8>)> {
     all
 }
 
+/// streams longer than a buffer of 64 KiB: one whose last read brings a single byte, the last of its last record, and one whose lines take more
+/// than 64 KiB though its records do not
+fn long() -> Vec<(String, Vec<u8>)> {
+    let head = frame(1, 1, &[9]);
+    let rest = 65537 - head.len() - 6;
+    let one_byte = [head, record(9, &vec![0; rest])].concat();
+    assert!(one_byte.len() == 65537);
+    let lines: Vec<u8> = (0..4600).flat_map(|_| frame(0, 0, &[])).collect();
+    assert!(lines.len() < 65536 && pinlog::log(&lines).len() > 65536);
+    vec![("one_byte_last".to_string(), one_byte), ("many_lines".to_string(), lines)]
+}
+
 fn main() {
     let crates = std::env::args().nth(1).expect("the folder of the crates");
     let write = |name: &str, bytes: &[u8]| std::fs::write(format!("{}/{}", crates, name), bytes).unwrap();
@@ -118,6 +130,7 @@ fn main() {
     write("pinlog/stdout", pinlog::log(&example()).as_bytes());
     let mut streams = vec![("numbers".to_string(), numbers(&mut Stream(20260105)))];
     streams.extend(broken());
+    streams.extend(long());
     let mut text = String::new();
     for (name, bytes) in &streams {
         write(&format!("logs/data/{}.rec", name), bytes);

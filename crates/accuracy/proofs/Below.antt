@@ -4,7 +4,7 @@ use Prim.Native.Nat.{ℕ, _+_, _-_, _*_, _≤_, _<_}
 use native.Mathlib.Nat.{le-trans, sub-le, sub-add-cancel, mul-pos, mul-le-mul, mul-le-mul-left, le-of-mul-le-mul-left, mul-div-le, lt-div-mul-add}
 use native.Mathlib.Omega.{arith}
 use lib.Dec.{lit<, lit≤}
-use Rattle.series.specs.Recurrence.{takenOf, stepsOf}
+use Rattle.series.specs.Recurrence.{quotientOf, stepsOf}
 use Rattle.series.specs.Series.{divisorOf}
 use Rattle.series.specs.declared.Series.the-variants.{Sine}
 use Rattle.series.proofs.Recurrence.{taken-le, steps-le}
@@ -20,9 +20,9 @@ unfolding stepsOf
 last-two z Z =
     let u = stepsOf (divisorOf Sine) z 8 6 in
     let U = steps-le (divisorOf Sine) z 8 6 in
-    let t = takenOf z 20 u in
+    let t = quotientOf z 20 u in
     let m = one - t in
-    let w = takenOf z 6 m in
+    let w = quotientOf z 6 m in
     let tz : 20 * t ≤ z = le-of-mul-le-mul-left {k = one} (omega (arith, mul-div-le (z * u) (one * 20), mul-le-mul-left z U)) (lit< tt) in
     let mt : m + t ≡ one = sub-add-cancel (taken-le z 20 u (le-trans Z (lit≤ tt)) U) in
     let sw : sineSteps z + w ≡ one = sub-add-cancel (taken-le z 6 m (le-trans Z (lit≤ tt)) (sub-le one t)) in

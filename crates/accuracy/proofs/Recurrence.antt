@@ -6,7 +6,7 @@ use native.Mathlib.Nat.{le-trans, le-of-eq, le-of-lt, lt-of-lt-of-le, add-zero, 
 use native.Mathlib.Omega.{arith}
 use lib.Dec.{T, leb, leb→le, lit<}
 use lib.Ieee.Fits.{and-l, and-r}
-use Rattle.series.specs.Recurrence.{takenOf, stepOf, stepsOf}
+use Rattle.series.specs.Recurrence.{quotientOf, uNext, stepsOf}
 use Rattle.series.proofs.Recurrence.{taken-le, steps-le}
 use Rattle.accuracy.proofs.Close.{Fraction, just, scale, rest, Close, through, looser, times, left}
 
@@ -39,9 +39,9 @@ module _ (z a c : ℕ) (s : Square z a c) where
   z-most = le-of-mul-le-mul-right (le-trans (s .low) (omega (arith, s .four))) (s .below)
 
   -- z * u / (2 ^ 30 * d), cut, is within (1 + 1 / d) units of a / c * u / d
-  cut-close : (d u : ℕ) → 0 < d → u ≤ one → Close (takenOf z d u) one (just (u * a) (one * (c * d))) (d + 1) (one * d)
+  cut-close : (d u : ℕ) → 0 < d → u ≤ one → Close (quotientOf z d u) one (just (u * a) (one * (c * d))) (d + 1) (one * d)
   cut-close d u D U =
-      let t = takenOf z d u in
+      let t = quotientOf z d u in
       let tl : one * d * t ≤ z * u = mul-div-le (z * u) (one * d) in
       let th : z * u ≤ t * (one * d) + one * d = le-of-lt (lt-div-mul-add (mul-pos (lit< tt) D)) in
       record {
@@ -50,14 +50,14 @@ module _ (z a c : ℕ) (s : Square z a c) where
       }
 
   -- what a step takes off
-  pub taken-close : {u n : ℕ} {f : Fraction} (d : ℕ) → 0 < d → u ≤ one → Close u one f n parts → Close (takenOf z d u) one (scale a (c * d) f) (errorNext d n) parts
+  pub taken-close : {u n : ℕ} {f : Fraction} (d : ℕ) → 0 < d → u ≤ one → Close u one f n parts → Close (quotientOf z d u) one (scale a (c * d) f) (errorNext d n) parts
   taken-close {u} {n} d D U h =
       looser (mul-pos (mul-pos (lit< tt) D) (mul-pos (lit< tt) (mul-pos (s .below) D)))
       (omega (arith, mul-le-mul-left (c * d) (error-room d n D), mul-le-mul-left (n * d) (s .four)))
       (through (mul-pos (lit< tt) (mul-pos (s .below) D)) (cut-close d u D U) (times a (c * d) h))
 
   -- what it leaves: for a divisor from 4 on it takes no more than there is
-  step-close : {u n : ℕ} {f : Fraction} (d : ℕ) → 4 ≤ d → u ≤ one → Close u one f n parts → Close (stepOf z d u) one (rest (scale a (c * d) f)) (errorNext d n) parts
+  step-close : {u n : ℕ} {f : Fraction} (d : ℕ) → 4 ≤ d → u ≤ one → Close u one f n parts → Close (uNext z d u) one (rest (scale a (c * d) f)) (errorNext d n) parts
   step-close {u} d D U h = left (sub-add-cancel (taken-le z d u (omega (arith, z-most)) U)) (taken-close d (lt-of-lt-of-le (lit< tt) D) U h)
 
 -- ---- the series: after n steps it has the terms for a ^ 0 to a ^ n, each over the divisors that it has met

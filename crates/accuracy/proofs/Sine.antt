@@ -18,7 +18,7 @@ use Rattle.series.specs.Series.{divisorOf, zOf, sinOf}
 use Rattle.series.specs.declared.Series.the-variants.{Sine}
 use Rattle.floats.proofs.Values.{value-bound}
 use Rattle.series.proofs.Recurrence.{steps-le}
-use Rattle.accuracy.specs.Taylor.{NearSin}
+use Rattle.accuracy.specs.Accuracy.{SineNear}
 use Rattle.floats.proofs.Exactly.{mul-value, unlike-false}
 use Rattle.accuracy.proofs.Close.{Fraction, scale, Close, times}
 use Rattle.accuracy.proofs.Recurrence.{one, parts, Square, errorOf, steps-close}
@@ -103,7 +103,7 @@ module _ (s : Bool) (k : ℕ) (e : ℤ) (w : Within (fin s k e) 2 1) where
       go false y z = near-at t 2 1 0 (lit< tt) (omega arith) (lit≤ tt) (under-one g v unit (2 ^ 124) n d (first .under) refl (below-one (zOf (fin s k e)) n d (down-pos e) square (le-of-lt (z tt)) two)) high
 
 -- THE THEOREM: theta from -2 to 2
-pub sin-near : (theta : Float) → Within theta 2 1 → NearSin theta (sinOf theta)
+pub sin-near : SineNear
 unfolding errorOf
 sin-near nan w = absurd w
 sin-near (inf s) w = absurd w

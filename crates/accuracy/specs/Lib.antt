@@ -1,1 +1,2 @@
 pub mod Taylor
+pub mod Accuracy

@@ -18,9 +18,9 @@ use Rattle.aligner.specs.declared.Reply.{Reply}
 abbrev pub freshOf : EccConfig → EccAligner
 freshOf cfg = record { cfg = cfg; held = false; «prev_w» = 0; «prev_h» = 0 }
 
--- the checks that come first, of a frame of t bytes and a store of s: 2, length, 13; 0 where all pass
+-- the checks that come first, of a frame and a store by their lengths: 2, length, 13; 0 where all pass
 unfoldable pub entryOf : ℕ → ℕ → ℕ → ℕ → ℕ
-entryOf t w h s = pick (ltb 4096 w) 2 (pick (ltb 4096 h) 2 (pick (eqb t (w * h)) (pick (ltb s (w * h)) 13 0) 1))
+entryOf frame w h store = pick (ltb 4096 w) 2 (pick (ltb 4096 h) 2 (pick (eqb frame (w * h)) (pick (ltb store (w * h)) 13 0) 1))
 
 -- whether there is a previous frame of the same sides: 11 for none, 12 for other sides; 0 where there is
 unfoldable pub knownOf : EccAligner → ℕ → ℕ → ℕ
@@ -28,15 +28,15 @@ knownOf a w h = pick (a .held) (pick (eqb (a .«prev_w») w) (pick (eqb (a .«pr
 
 -- the answer to a frame that is taken: the previous frame is the template
 unfoldable pub answerOf : EccAligner → List ℕ → ℕ → ℕ → List ℕ → ℕ → ℕ → Outcome
-answerOf a frame w h store k m =
-    pick (eqb (knownOf a w h) 0) (alignedOf (take (w * h) store) frame w h (a .cfg) k m) (record { passes = 0; answer = Refused (knownOf a w h) })
+answerOf a frame w h store work marks =
+    pick (eqb (knownOf a w h) 0) (alignedOf (take (w * h) store) frame w h (a .cfg) work marks) (record { passes = 0; answer = Refused (knownOf a w h) })
 
 -- the aligner and the answer: where the first checks refuse, the aligner stays as it was; else the frame becomes the previous one
 unfoldable pub estimateOf : EccAligner → List ℕ → ℕ → ℕ → List ℕ → ℕ → ℕ → Reply
-estimateOf a frame w h store k m =
+estimateOf a frame w h store work marks =
     let number = entryOf (length frame) w h (length store) in
     pick (eqb number 0)
-    (record { aligner = record { cfg = a .cfg; held = true; «prev_w» = w; «prev_h» = h }; outcome = answerOf a frame w h store k m })
+    (record { aligner = record { cfg = a .cfg; held = true; «prev_w» = w; «prev_h» = h }; outcome = answerOf a frame w h store work marks })
     (record { aligner = a; outcome = record { passes = 0; answer = Refused number } })
 
 -- the store afterwards: its front holds the frame that was taken
@@ -45,7 +45,7 @@ storeAfter frame w h store = pick (eqb (entryOf (length frame) w h (length store
 
 -- the number that decides over work and marks: that of the check that refuses, the alignment's own among them; 0 where the passes began
 unfoldable pub begunOf : EccAligner → ℕ → ℕ → ℕ → ℕ → ℕ → ℕ
-begunOf a t w h k m = pick (eqb (knownOf a w h) 0) (checkOf (w * h) t w h (a .cfg) k m) (knownOf a w h)
+begunOf a frame w h work marks = pick (eqb (knownOf a w h) 0) (checkOf (w * h) frame w h (a .cfg) work marks) (knownOf a w h)
 
 unfoldable pub refusedOf : EccAligner → ℕ → ℕ → ℕ → ℕ → ℕ → ℕ → ℕ
-refusedOf a t w h s k m = pick (eqb (entryOf t w h s) 0) (begunOf a t w h k m) (entryOf t w h s)
+refusedOf a frame w h store work marks = pick (eqb (entryOf frame w h store) 0) (begunOf a frame w h work marks) (entryOf frame w h store)

@@ -9,7 +9,7 @@ ghost use lib.ListN.{length};
 ghost use Rattle.lists.specs.Lists.{put};
 ghost use Rattle.checks.specs.Checks.{sizeOf};
 ghost use Rattle.pose.specs.declared.Answer.the-variants.{Refused};
-ghost use Rattle.alignment.specs.Aligned.{workAfter, marksAfter};
+ghost use Rattle.alignment.specs.Aligned.{Leaves};
 ghost use Rattle.aligner.specs.Aligner.{freshOf, entryOf, knownOf, begunOf, answerOf, estimateOf, storeAfter, refusedOf};
 use pose::Answer;
 use pose::Outcome;
@@ -100,7 +100,10 @@ fn answer(
 ) -> Outcome
     requires { ⌜ (w ≤ 4096) × (h ≤ 4096) × (w * h ≤ length (now store)) ⌝ }
     ensures { λ r. ⌜ r ≡ answerOf aligner (now (frame .entry)) w h (now (store .entry)) (length (now (work .entry))) (length (now (marks .entry))) ⌝ }
-    ensures { λ r. ⌜ (let number = begunOf aligner (length (now (frame .entry))) w h (length (now (work .entry))) (length (now (marks .entry))) in (now (work .exit) ≡ workAfter number (sizeOf (aligner .cfg) w h) (now (work .entry))) × (now (marks .exit) ≡ marksAfter number (sizeOf (aligner .cfg) w h) (now (marks .entry)))) ⌝ }
+    ensures { λ r. ⌜
+        (let number = begunOf aligner (length (now (frame .entry))) w h (length (now (work .entry))) (length (now (marks .entry))) in
+        Leaves number (sizeOf (aligner .cfg) w h) (now (work .entry)) (now (work .exit)) (now (marks .entry)) (now (marks .exit)))
+        ⌝ }
 {
     let number = known(aligner, w, h);
     if number != 0 {
@@ -131,9 +134,14 @@ pub fn estimate(
     work: &mut [f32],
     marks: &mut [u8],
 ) -> Reply
-    ensures { λ r. ⌜ r ≡ estimateOf aligner (now (frame .entry)) w h (now (store .entry)) (length (now (work .entry))) (length (now (marks .entry))) ⌝ }
+    ensures { λ r. ⌜
+        r ≡ estimateOf aligner (now (frame .entry)) w h (now (store .entry)) (length (now (work .entry))) (length (now (marks .entry)))
+        ⌝ }
     ensures { λ r. ⌜ now (store .exit) ≡ storeAfter (now (frame .entry)) w h (now (store .entry)) ⌝ }
-    ensures { λ r. ⌜ (let number = refusedOf aligner (length (now (frame .entry))) w h (length (now (store .entry))) (length (now (work .entry))) (length (now (marks .entry))) in (now (work .exit) ≡ workAfter number (sizeOf (aligner .cfg) w h) (now (work .entry))) × (now (marks .exit) ≡ marksAfter number (sizeOf (aligner .cfg) w h) (now (marks .entry)))) ⌝ }
+    ensures { λ r. ⌜
+        (let number = refusedOf aligner (length (now (frame .entry))) w h (length (now (store .entry))) (length (now (work .entry))) (length (now (marks .entry))) in
+        Leaves number (sizeOf (aligner .cfg) w h) (now (work .entry)) (now (work .exit)) (now (marks .entry)) (now (marks .exit)))
+        ⌝ }
 {
     let number = entry(frame.len(), w, h, store.len());
     if number != 0 {

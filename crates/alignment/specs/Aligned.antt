@@ -1,4 +1,5 @@
 -- Document 000's find_transform_ecc_euclidean with document 01's numbers: the checks, the passes, and the lent memory afterwards. Definitions only.
+use mathlib.Core.Path.{_≡_}
 use Prim.Native.Nat.{ℕ, _*_}
 use mathlib.Core.List.{List}
 use lib.Dec.{eqb}
@@ -30,10 +31,10 @@ passIn template input w h tw th cfg =
 unfoldable pub runOf : List ℕ → List ℕ → ℕ → ℕ → ℕ → ℕ → EccConfig → Outcome
 runOf template input w h tw th cfg = outcomeOf (f32 tw ⊘ f32 w) (f32 th ⊘ f32 h) (after (passIn template input w h tw th cfg) (cfg .«max_iter»))
 
--- the answer and the pass count
+-- the answer and the pass count; `work` and `marks` are the lengths of what is lent
 unfoldable pub alignedOf : List ℕ → List ℕ → ℕ → ℕ → EccConfig → ℕ → ℕ → Outcome
-alignedOf template input w h cfg k m =
-    let number = checkOf (length template) (length input) w h cfg k m in
+alignedOf template input w h cfg work marks =
+    let number = checkOf (length template) (length input) w h cfg work marks in
     let s = resizedOf (edgeOf cfg) w h in
     pick (eqb number 0) (runOf template input w h (s .w) (s .h) cfg) (record { passes = 0; answer = Refused number })
 
@@ -43,3 +44,7 @@ workAfter number n xs = pick (eqb number 0) (put xs 0 (tab (12 * n) (λ _. 0f)))
 
 unfoldable pub marksAfter : ℕ → ℕ → List ℕ → List ℕ
 marksAfter number n ms = pick (eqb number 0) (put ms 0 (tab n (λ _. 0))) ms
+
+-- both, from before to after a call: `number` is that of the check that refuses, 0 where none does, and n counts the pixels
+abbrev pub Leaves : ℕ → ℕ → List Float → List Float → List ℕ → List ℕ → Type 0
+Leaves number n work work′ marks marks′ = (work′ ≡ workAfter number n work) × (marks′ ≡ marksAfter number n marks)

@@ -7,12 +7,13 @@ ghost use mathlib.Core.Path.{_≡_};
 ghost use Prim.Native.Nat.{_*_, _%_, _≤_};
 ghost use lib.ListN.{length};
 ghost use Rattle.lists.specs.Lists.{tab, put, image};
+ghost use Rattle.lists.specs.Premises.{InRange, OddFilter, Lent};
 ghost use Rattle.floats.specs.F32.{0f};
 ghost use Rattle.checks.specs.Checks.{sizeOf, checkOf};
 ghost use Rattle.pass.specs.Pass.{passOf};
 ghost use Rattle.pass.specs.Kept.{Kept, KeptMarks};
 ghost use Rattle.runs.specs.Runs.{after, outcomeOf};
-ghost use Rattle.alignment.specs.Aligned.{runOf, alignedOf, workAfter, marksAfter};
+ghost use Rattle.alignment.specs.Aligned.{runOf, alignedOf, Leaves};
 use pose::Answer;
 use pose::Outcome;
 use settings::EccConfig;
@@ -27,8 +28,11 @@ fn passes(
     sx: f32,
     sy: f32,
 ) -> Outcome
-    requires { ⌜ (1 ≤ w) × (w ≤ 4096) × (1 ≤ h) × (h ≤ 4096) × (12 * (w * h) ≤ length (now work)) × (w * h ≤ length (now marks)) × (cfg .«max_iter» ≤ 1000) ⌝ }
-    ensures { λ r. ⌜ (let n = w * h in let xs = now (work .entry) in r ≡ outcomeOf sx sy (after (passOf (image n 8 xs) (image n 2 xs) (image n 3 xs) (image n 4 xs) w h (cfg .eps)) (cfg .«max_iter»))) ⌝ }
+    requires { ⌜ InRange w h × Lent (w * h) (now work) (now marks) × (cfg .«max_iter» ≤ 1000) ⌝ }
+    ensures { λ r. ⌜
+        (let n = w * h in let xs = now (work .entry) in
+        r ≡ outcomeOf sx sy (after (passOf (image n 8 xs) (image n 2 xs) (image n 3 xs) (image n 4 xs) w h (cfg .eps)) (cfg .«max_iter»)))
+        ⌝ }
     ensures { λ r. ⌜ Kept (w * h) (now (work .entry)) (now (work .exit)) × KeptMarks (w * h) (now (marks .entry)) (now (marks .exit)) ⌝ }
 {
     let mut spots = [0u32; 4096];
@@ -61,9 +65,15 @@ fn align(
     work: &mut [f32],
     marks: &mut [u8],
 ) -> Outcome
-    requires { ⌜ (1 ≤ w) × (w ≤ 4096) × (1 ≤ h) × (h ≤ 4096) × (1 ≤ tw) × (tw ≤ 4096) × (1 ≤ th) × (th ≤ 4096) × (length (now template) ≡ w * h) × (length (now input) ≡ w * h) × (12 * (tw * th) ≤ length (now work)) × (tw * th ≤ length (now marks)) × (cfg .«gauss_filt_size» % 2 ≡ 1) × (cfg .«gauss_filt_size» ≤ 31) × (cfg .«max_iter» ≤ 1000) ⌝ }
+    requires { ⌜
+        InRange w h × InRange tw th × (length (now template) ≡ w * h) × (length (now input) ≡ w * h)
+        × Lent (tw * th) (now work) (now marks) × OddFilter (cfg .«gauss_filt_size») × (cfg .«max_iter» ≤ 1000)
+        ⌝ }
     ensures { λ r. ⌜ r ≡ runOf (now (template .entry)) (now (input .entry)) w h tw th cfg ⌝ }
-    ensures { λ r. ⌜ (now (work .exit) ≡ put (now (work .entry)) 0 (tab (12 * (tw * th)) (λ _. 0f))) × (now (marks .exit) ≡ put (now (marks .entry)) 0 (tab (tw * th) (λ _. 0))) ⌝ }
+    ensures { λ r. ⌜
+        (now (work .exit) ≡ put (now (work .entry)) 0 (tab (12 * (tw * th)) (λ _. 0f)))
+        × (now (marks .exit) ≡ put (now (marks .entry)) 0 (tab (tw * th) (λ _. 0)))
+        ⌝ }
 {
     let n = tw * th;
     let sx = numbers::to_f32(tw) / numbers::to_f32(w);
@@ -85,14 +95,17 @@ pub fn find_transform_ecc_euclidean(
     marks: &mut [u8],
 ) -> Outcome
     ensures { λ r. ⌜ r ≡ alignedOf (now (template .entry)) (now (input .entry)) w h cfg (length (now (work .entry))) (length (now (marks .entry))) ⌝ }
-    ensures { λ r. ⌜ (let number = checkOf (length (now (template .entry))) (length (now (input .entry))) w h cfg (length (now (work .entry))) (length (now (marks .entry))) in (now (work .exit) ≡ workAfter number (sizeOf cfg w h) (now (work .entry))) × (now (marks .exit) ≡ marksAfter number (sizeOf cfg w h) (now (marks .entry)))) ⌝ }
+    ensures { λ r. ⌜
+        (let number = checkOf (length (now (template .entry))) (length (now (input .entry))) w h cfg (length (now (work .entry))) (length (now (marks .entry))) in
+        Leaves number (sizeOf cfg w h) (now (work .entry)) (now (work .exit)) (now (marks .entry)) (now (marks .exit)))
+        ⌝ }
 {
     let number = checks::check(
-        cfg,
-        w,
-        h,
         template.len(),
         input.len(),
+        w,
+        h,
+        cfg,
         work.len(),
         marks.len(),
     );

@@ -17,7 +17,7 @@ use Rattle.blur.specs.declared.Along.{Along}
 use Rattle.blur.specs.declared.Along.the-variants.{Rows, Columns}
 use Rattle.kernel.specs.Kernel.{kernelOf}
 use Rattle.blur.specs.Blur.{rowsOf, columnsOf, blurOf}
-use Rattle.blur.specs.Pass.{spotOf, tapsOf, passOf}
+use Rattle.blur.specs.Pass.{spotOf, tapsOf, sweepOf}
 use Rattle.lists.proofs.Grow.{grid-all}
 use Rattle.floats.proofs.Sums.{to-within}
 use Rattle.kernel.proofs.Kernels.{weight-within}
@@ -39,8 +39,8 @@ module _ (ksize : ℕ) (few : ksize ≤ 31) (odd : ksize % 2 ≡ 1) where
         (to-within k (omega arith) f ksize (omega arith) (λ j l. scaled-within k (omega arith) _ _ (b (spot j) (spot-in along ksize w h x y j p q)) (weight-within ksize few odd j l)))
         (thirty-two ksize k few)
 
-    pass-within : k ≤ 98 → (along : Along) → Bounded (passOf along (kernelOf ksize) ksize w h src) (w * h) (k + 5)
-    unfolding passOf
+    pass-within : k ≤ 98 → (along : Along) → Bounded (sweepOf along (kernelOf ksize) ksize w h src) (w * h) (k + 5)
+    unfolding sweepOf
     pass-within K along = grid-all (λ z. Within z (2 ^ (k + 5)) 1) w h (tapsOf along (kernelOf ksize) ksize w h src ksize) nan (pixel-within K along)
 
     pub rows-within : k ≤ 98 → Bounded (rowsOf ksize w h src) (w * h) (k + 5)

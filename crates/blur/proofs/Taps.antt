@@ -12,7 +12,7 @@ use Rattle.lists.proofs.Fill.{fill-none, fill-more, take-fill, fill-before, fil
 use Rattle.floats.specs.F32.{_⊕_, _⊗_, 0f}
 use Rattle.floats.specs.Sums.{sumTo}
 use Rattle.floats.proofs.Sums.{to-none, to-more}
-use Rattle.blur.specs.Blur.{heldOf}
+use Rattle.blur.specs.Blur.{clampedOf}
 use Rattle.blur.specs.declared.Along.{Along}
 use Rattle.blur.specs.declared.Along.the-variants.{Rows, Columns}
 use Rattle.blur.specs.Pass.{addedOf, spotOf, tapsOf}
@@ -89,7 +89,7 @@ module _ (xs : List Float) (dst src w n m : ℕ) (weight : Float) (least : m ≡
 -- ---- a tap at a turn
 pub spot-in : (along : Along) (ksize w h x y k : ℕ) → x < w → y < h → spotOf along ksize w h x y k < w * h
 spot-in Rows ksize w h x y k p q = omega (arith, row-in w y h q)
-spot-in Columns ksize w h x y k p q = omega (arith, row-in w (heldOf ksize h y k) h (omega arith))
+spot-in Columns ksize w h x y k p q = omega (arith, row-in w (clampedOf ksize h y k) h (omega arith))
 
 -- zs, with the first n taps of the row y from dst on
 abbrev pub row : Along → List Float → ℕ → ℕ → ℕ → ℕ → ℕ → List Float → ℕ → List Float

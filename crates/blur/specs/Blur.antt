@@ -11,16 +11,16 @@ use Rattle.floats.specs.Sums.{sumTo}
 use Rattle.kernel.specs.Kernel.{kernelOf}
 
 -- (p + k - radius).clamp(0, n - 1): `-` on whole numbers stops at 0
-abbrev pub heldOf : ℕ → ℕ → ℕ → ℕ → ℕ
-heldOf ksize n p k = min (p + k - ksize / 2) (n - 1)
+abbrev pub clampedOf : ℕ → ℕ → ℕ → ℕ → ℕ
+clampedOf ksize n p k = min (p + k - ksize / 2) (n - 1)
 
 -- tmp[y * w + x], the sum over k of src[y * w + xx] * kernel[k]
 unfoldable pub rowsOf : ℕ → ℕ → ℕ → List Float → List Float
-rowsOf ksize w h src = let kernel = kernelOf ksize in grid w h (λ x y. sumTo (λ k. getD src (y * w + heldOf ksize w x k) nan ⊗ getD kernel k nan) ksize)
+rowsOf ksize w h src = let kernel = kernelOf ksize in grid w h (λ x y. sumTo (λ k. getD src (y * w + clampedOf ksize w x k) nan ⊗ getD kernel k nan) ksize)
 
 -- out[y * w + x], the sum over k of tmp[yy * w + x] * kernel[k]
 unfoldable pub columnsOf : ℕ → ℕ → ℕ → List Float → List Float
-columnsOf ksize w h tmp = let kernel = kernelOf ksize in grid w h (λ x y. sumTo (λ k. getD tmp (heldOf ksize h y k * w + x) nan ⊗ getD kernel k nan) ksize)
+columnsOf ksize w h tmp = let kernel = kernelOf ksize in grid w h (λ x y. sumTo (λ k. getD tmp (clampedOf ksize h y k * w + x) nan ⊗ getD kernel k nan) ksize)
 
 -- gaussian_blur_separable(src, w, h, ksize): size 1 copies
 unfoldable pub blurOf : ℕ → ℕ → ℕ → List Float → List Float

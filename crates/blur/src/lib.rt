@@ -7,8 +7,9 @@ ghost use mathlib.Core.Path.{_≡_};
 ghost use Prim.Native.Nat.{_+_, _-_, _*_, _%_, _≤_, _<_, min};
 ghost use lib.ListN.{length, take};
 ghost use Rattle.lists.specs.Lists.{tab, put, image, setImage};
-ghost use Rattle.blur.specs.Blur.{heldOf, rowsOf, columnsOf};
-ghost use Rattle.blur.specs.Pass.{addedOf, spotOf, tapsOf, passOf};
+ghost use Rattle.lists.specs.Premises.{InRange, OddFilter};
+ghost use Rattle.blur.specs.Blur.{clampedOf, rowsOf, columnsOf};
+ghost use Rattle.blur.specs.Pass.{addedOf, spotOf, tapsOf, sweepOf};
 
 // To each of the `len` numbers from `dst` on, the one as far behind `src` times the weight is added.
 fn add_run(part: &mut [f32], dst: usize, src: usize, len: usize, weight: f32)
@@ -71,7 +72,7 @@ enum Along {
 // p + k - radius, held to 0..n - 1.
 fn held(ksize: usize, n: usize, p: usize, k: usize) -> usize
     requires { ⌜ (ksize ≤ 31) × (k < ksize) × (p < n) × (n ≤ 4096) ⌝ }
-    ensures { λ i. ⌜ (i ≡ heldOf ksize n p k) × (i < n) ⌝ }
+    ensures { λ i. ⌜ (i ≡ clampedOf ksize n p k) × (i < n) ⌝ }
 {
     let radius = ksize / 2;
     if p + k < radius {
@@ -114,7 +115,10 @@ fn add_tap(
 // The row y of a pass, from the first image of the part to the second.
 fn blur_row(along: Along, part: &mut [f32], ks: &[f32], w: usize, h: usize, ksize: usize, y: usize)
     requires { ⌜ (1 ≤ w) × (w ≤ 4096) × (y < h) × (h ≤ 4096) × (ksize ≤ 31) × (ksize ≤ length (now ks)) × (w * h + y * w + w ≤ length (now part)) ⌝ }
-    ensures { λ _. ⌜ now (part .exit) ≡ put (now (part .entry)) (w * h + y * w) (tab w (λ x. tapsOf along (now (ks .entry)) ksize w h (take (w * h) (now (part .entry))) ksize x y)) ⌝ }
+    ensures { λ _. ⌜
+        now (part .exit) ≡ put (now (part .entry)) (w * h + y * w)
+        (tab w (λ x. tapsOf along (now (ks .entry)) ksize w h (take (w * h) (now (part .entry))) ksize x y))
+        ⌝ }
 {
     let dst = w * h + y * w;
     zeros::fill_floats(part, dst, w);
@@ -127,8 +131,11 @@ fn blur_row(along: Along, part: &mut [f32], ks: &[f32], w: usize, h: usize, ksiz
 
 // A pass from the first image of the part to the second.
 fn blur_pass(along: Along, part: &mut [f32], ks: &[f32], w: usize, h: usize, ksize: usize)
-    requires { ⌜ (1 ≤ w) × (w ≤ 4096) × (1 ≤ h) × (h ≤ 4096) × (ksize ≤ 31) × (ksize ≤ length (now ks)) × (2 * (w * h) ≤ length (now part)) ⌝ }
-    ensures { λ _. ⌜ now (part .exit) ≡ setImage (w * h) 1 (passOf along (now (ks .entry)) ksize w h (image (w * h) 0 (now (part .entry)))) (now (part .entry)) ⌝ }
+    requires { ⌜ InRange w h × (ksize ≤ 31) × (ksize ≤ length (now ks)) × (2 * (w * h) ≤ length (now part)) ⌝ }
+    ensures { λ _. ⌜
+        now (part .exit) ≡ setImage (w * h) 1 (sweepOf along (now (ks .entry)) ksize w h (image (w * h) 0 (now (part .entry))))
+        (now (part .entry))
+        ⌝ }
 {
     let mut y = 0;
     while y < h {
@@ -139,7 +146,7 @@ fn blur_pass(along: Along, part: &mut [f32], ks: &[f32], w: usize, h: usize, ksi
 
 // The second image of the part becomes the pass along the rows, the third the blurred image.
 pub fn gaussian_blur_separable(part: &mut [f32], w: usize, h: usize, ksize: usize)
-    requires { ⌜ (1 ≤ w) × (w ≤ 4096) × (1 ≤ h) × (h ≤ 4096) × (3 ≤ ksize) × (ksize ≤ 31) × (ksize % 2 ≡ 1) × (3 * (w * h) ≤ length (now part)) ⌝ }
+    requires { ⌜ InRange w h × (3 ≤ ksize) × OddFilter ksize × (3 * (w * h) ≤ length (now part)) ⌝ }
     ensures { λ _. ⌜ now (part .exit) ≡
         setImage (w * h) 2 (columnsOf ksize w h (rowsOf ksize w h (image (w * h) 0 (now (part .entry)))))
         (setImage (w * h) 1 (rowsOf ksize w h (image (w * h) 0 (now (part .entry)))) (now (part .entry))) ⌝ }

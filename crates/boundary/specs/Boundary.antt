@@ -13,7 +13,7 @@ use Rattle.settings.specs.Sides.{resizedOf}
 use Rattle.settings.specs.declared.EccConfig.{EccConfig}
 use Rattle.settings.specs.declared.LongEdge.the-variants.{Never, To}
 use Rattle.inverse.specs.declared.Matrix3.{Matrix3}
-use Rattle.pose.specs.Pose.{numberOf}
+use Rattle.pose.specs.Pose.{toldOf, numberOf}
 use Rattle.pose.specs.declared.Answer.{Answer}
 use Rattle.pose.specs.declared.Answer.the-variants.{Posed, Refused}
 use Rattle.pose.specs.declared.Outcome.{Outcome}
@@ -24,8 +24,8 @@ unfoldable pub configOf : Float → ℕ → ℕ → ℕ → EccConfig
 configOf eps most filter edge = record { eps = eps; «max_iter» = most; «gauss_filt_size» = filter; «resize_long_edge» = pick (eqb edge 0) Never (To edge) }
 
 -- n, the number of pixels after resizing; 0 where a side is 0 or above 4,096
-unfoldable pub pixelsOf : ℕ → ℕ → ℕ → ℕ
-pixelsOf w h edge =
+unfoldable pub pixelCountOf : ℕ → ℕ → ℕ → ℕ
+pixelCountOf w h edge =
     let s = resizedOf edge w h in
     pick (ltb 4096 w) 0 (pick (ltb 4096 h) 0 (pick (eqb w 0) 0 (pick (eqb h 0) 0 (s .w * s .h))))
 
@@ -39,16 +39,11 @@ codeOf o = numberOf (o .answer) + 256 * o .passes
 
 -- theta, tx, ty, rho; zeros for a refusal
 unfoldable pub poseOf : Answer → List Float
-poseOf (Refused k) = 0f ∷ 0f ∷ 0f ∷ 0f ∷ []
-poseOf (Posed theta tx ty rho) = theta ∷ tx ∷ ty ∷ rho ∷ []
+poseOf a = let t = toldOf a in t .theta ∷ t .tx ∷ t .ty ∷ t .rho ∷ []
 
 -- an answer handed in: 0 is a pose, whose rho plays no part; any other number is a refusal
 unfoldable pub handedOf : ℕ → Float → Float → Float → Answer
 handedOf number theta tx ty = pick (eqb number 0) (Posed theta tx ty 0f) (Refused number)
-
--- the nine entries of a matrix, row after row
-unfoldable pub entriesOf : Matrix3 → List Float
-entriesOf m = m .m00 ∷ m .m01 ∷ m .m02 ∷ m .m10 ∷ m .m11 ∷ m .m12 ∷ m .m20 ∷ m .m21 ∷ m .m22 ∷ []
 
 -- dx, dy, turn
 unfoldable pub threeOf : Pins → List ℤ

@@ -5,7 +5,8 @@
 ghost use mathlib.Core.Path.{_≡_};
 ghost use mathlib.Core.List.{[], _∷_};
 ghost use Prim.Native.Nat.{_≤_};
-ghost use Rattle.boundary.specs.Boundary.{configOf, pixelsOf, fronted, codeOf, poseOf, handedOf, entriesOf, threeOf};
+ghost use Rattle.inverse.specs.Inverse.{entriesOf};
+ghost use Rattle.boundary.specs.Boundary.{configOf, pixelCountOf, fronted, codeOf, poseOf, handedOf, threeOf};
 use driver::Pins;
 use inverse::Matrix3;
 use pose::Answer;
@@ -31,7 +32,7 @@ pub fn config(eps: f32, max_iter: usize, filter: usize, edge: usize) -> EccConfi
 
 // How many pixels a frame has after resizing.
 pub fn pixels(w: usize, h: usize, edge: usize) -> usize
-    ensures { λ r. ⌜ (r ≡ pixelsOf w h edge) × (r ≤ 16777216) ⌝ }
+    ensures { λ r. ⌜ (r ≡ pixelCountOf w h edge) × (r ≤ 16777216) ⌝ }
 {
     if w > EccConfig::MOST_SIDE {
         return 0;

@@ -1,26 +1,40 @@
 // Whether a whole call of the alignment gives the answer that a vector has, and leaves work and marks as it says; and whether the driver
 // numbers are those of a vector. tools/vectors/calls.rs and pins.rs say how a line is made. A vector that is not well formed does not agree.
-ghost use Prim.Native.Nat.{_≤_};
+ghost use mathlib.Core.Path.{_≡_};
+ghost use Prim.Native.Nat.{_+_, _≤_};
+ghost use lib.Dec.{leb, ltb};
+ghost use lib.ListN.{length};
+ghost use Rattle.lists.specs.Lists.{tab};
+ghost use Rattle.lists.specs.Marked.{pick};
+ghost use Rattle.floats.specs.F32.{0f};
+ghost use Rattle.pose.specs.declared.Answer.the-variants.{Posed, Refused};
+ghost use Rattle.words.specs.Words.{storedAt};
+ghost use Rattle.calls.specs.Calls.{edgeAt, settingsAt, floatBefore, workAgrees, marksAgree, answerAgrees, outcomeAgrees, calledAgrees, isWhole, callAgrees};
+ghost use Rattle.calls.specs.Pins.{pinAgrees, answerAt, pinsAgree, callsAgree};
 use pose::Answer;
 use pose::Outcome;
 use settings::EccConfig;
 use settings::LongEdge;
-use vectors::bytes;
-use vectors::float;
-use vectors::same_floats;
-use vectors::word;
+use words::bytes;
+use words::float;
+use words::same_floats;
+use words::word;
 
 // Where the frames' bytes begin.
 const FRAMES: usize = 12;
 
-fn edge_at(words: &[u64]) -> LongEdge {
+fn edge_at(words: &[u64]) -> LongEdge
+    ensures { λ r. ⌜ r ≡ edgeAt (now (words .entry)) ⌝ }
+{
     if word(words, 8) == 0 {
         return LongEdge::Never;
     }
     LongEdge::To(word(words, 9) as usize)
 }
 
-fn settings_at(words: &[u64]) -> EccConfig {
+fn settings_at(words: &[u64]) -> EccConfig
+    ensures { λ r. ⌜ r ≡ settingsAt (now (words .entry)) ⌝ }
+{
     let edge = edge_at(words);
     EccConfig {
         eps: float(word(words, 5)),
@@ -31,11 +45,25 @@ fn settings_at(words: &[u64]) -> EccConfig {
 }
 
 // What stands at a place of the work before the call: no zero of the sign that clearing writes.
-fn float_before(i: usize) -> f32 {
+fn float_before(i: usize) -> f32
+    ensures { λ r. ⌜ r ≡ floatBefore i ⌝ }
+{
     if i % 3 == 0 { -0.0 } else { 1.0 }
 }
 
-fn fill_work(work: &mut [f32]) {
+// What is to stand there afterwards: +0 in the first `zeros` places, else what stood there.
+fn float_after(i: usize, zeros: u64) -> f32
+    ensures { λ r. ⌜ r ≡ pick (ltb i zeros) 0f (floatBefore i) ⌝ }
+{
+    if (i as u64) < zeros {
+        return 0.0;
+    }
+    float_before(i)
+}
+
+fn fill_work(work: &mut [f32])
+    ensures { λ _. ⌜ now (work .exit) ≡ tab (length (now (work .entry))) floatBefore ⌝ }
+{
     let mut i = 0;
     while i < work.len() {
         work[i] = float_before(i);
@@ -43,7 +71,9 @@ fn fill_work(work: &mut [f32]) {
     }
 }
 
-fn fill_marks(marks: &mut [u8]) {
+fn fill_marks(marks: &mut [u8])
+    ensures { λ _. ⌜ now (marks .exit) ≡ tab (length (now (marks .entry))) (λ _. 7) ⌝ }
+{
     let mut i = 0;
     while i < marks.len() {
         marks[i] = 7;
@@ -52,30 +82,35 @@ fn fill_marks(marks: &mut [u8]) {
 }
 
 // Whether the first `zeros` floats are +0 and the rest stayed.
-fn work_agrees(work: &[f32], zeros: u64) -> bool {
+fn work_agrees(work: &[f32], zeros: u64) -> bool
+    ensures { λ r. ⌜ r ≡ workAgrees zeros (now (work .entry)) ⌝ }
+{
     let mut all = true;
     let mut i = 0;
     while i < work.len() {
-        let x = if (i as u64) < zeros {
-            0.0
-        } else {
-            float_before(i)
-        };
-        if numbers::to_bits(work[i]) != numbers::to_bits(x) {
+        if numbers::to_bits(work[i]) != numbers::to_bits(float_after(i, zeros)) {
             all = false;
         }
         i += 1;
     }
     all
+}
+
+// What is to be at a place of the marks afterwards.
+fn mark_after(i: usize, zeros: u64) -> u8
+    ensures { λ r. ⌜ r ≡ pick (ltb i zeros) 0 7 ⌝ }
+{
+    if (i as u64) < zeros { 0 } else { 7 }
 }
 
 // Whether the first `zeros` marks are 0 and the rest stayed.
-fn marks_agree(marks: &[u8], zeros: u64) -> bool {
+fn marks_agree(marks: &[u8], zeros: u64) -> bool
+    ensures { λ r. ⌜ r ≡ marksAgree zeros (now (marks .entry)) ⌝ }
+{
     let mut all = true;
     let mut i = 0;
     while i < marks.len() {
-        let x = if (i as u64) < zeros { 0 } else { 7 };
-        if marks[i] != x {
+        if marks[i] != mark_after(i, zeros) {
             all = false;
         }
         i += 1;
@@ -83,25 +118,45 @@ fn marks_agree(marks: &[u8], zeros: u64) -> bool {
     all
 }
 
-// The number and the four numbers of a pose, from the word `at` on; zeros for a refusal.
+// The number of a refusal, from the word `at` on, and zeros for its pose.
+fn refused(words: &[u64], at: usize, k: u8) -> bool
+    requires { ⌜ at ≤ 8412 ⌝ }
+    ensures { λ r. ⌜ r ≡ answerAgrees (now (words .entry)) at (Refused k) ⌝ }
+{
+    if word(words, at) != (k as u64) {
+        return false;
+    }
+    if k == 0 {
+        return false;
+    }
+    same_floats(words, at + 2, 4, &[0.0, 0.0, 0.0, 0.0], 0)
+}
+
+// The number 0, from the word `at` on, and the four numbers of a pose.
+fn posed(words: &[u64], at: usize, theta: f32, tx: f32, ty: f32, rho: f32) -> bool
+    requires { ⌜ at ≤ 8412 ⌝ }
+    ensures { λ r. ⌜ r ≡ answerAgrees (now (words .entry)) at (Posed theta tx ty rho) ⌝ }
+{
+    if word(words, at) != 0 {
+        return false;
+    }
+    same_floats(words, at + 2, 4, &[theta, tx, ty, rho], 0)
+}
+
 fn answer_agrees(words: &[u64], at: usize, a: Answer) -> bool
     requires { ⌜ at ≤ 8412 ⌝ }
+    ensures { λ r. ⌜ r ≡ answerAgrees (now (words .entry)) at a ⌝ }
 {
-    let number = word(words, at);
     match a {
-        Answer::Refused(k) => {
-            number == (k as u64)
-                && k != 0
-                && same_floats(words, at + 2, 4, &[0.0, 0.0, 0.0, 0.0], 0)
-        }
-        Answer::Posed { theta, tx, ty, rho } => number == 0
-            && same_floats(words, at + 2, 4, &[theta, tx, ty, rho], 0),
+        Answer::Refused(k) => refused(words, at, k),
+        Answer::Posed { theta, tx, ty, rho } => posed(words, at, theta, tx, ty, rho),
     }
 }
 
 // Number, passes, pose and matrix, from the word `at` on.
 fn outcome_agrees(words: &[u64], at: usize, out: Outcome) -> bool
     requires { ⌜ at ≤ 8412 ⌝ }
+    ensures { λ r. ⌜ r ≡ outcomeAgrees (now (words .entry)) at out ⌝ }
 {
     let a = out.answer;
     let m = pose::matrix_of(a);
@@ -116,18 +171,13 @@ fn outcome_agrees(words: &[u64], at: usize, out: Outcome) -> bool
         m.m21,
         m.m22,
     ];
-    let told = (out.passes as u64) == word(words, at + 1)
-        && same_floats(words, at + 6, 9, &entries, 0);
-    told && answer_agrees(words, at, a)
-}
-
-// Whether the line ends with the answer's words, and the lent lengths are those that it says.
-fn is_whole(words: &[u64], at: usize, floats: usize, marks: usize) -> bool
-    requires { ⌜ at ≤ 8412 ⌝ }
-{
-    words.len() == at + 17
-        && word(words, 10) == (floats as u64)
-        && word(words, 11) == (marks as u64)
+    if (out.passes as u64) != word(words, at + 1) {
+        return false;
+    }
+    if !same_floats(words, at + 6, 9, &entries, 0) {
+        return false;
+    }
+    answer_agrees(words, at, a)
 }
 
 // The call itself, by slices of the lengths that the vector says; the answer stands from the word `at` on.
@@ -140,9 +190,8 @@ fn called(
     marks: &mut [u8],
 ) -> bool
     requires { ⌜ at ≤ 8412 ⌝ }
+    ensures { λ r. ⌜ r ≡ calledAgrees (now (words .entry)) at (now (template .entry)) (now (input .entry)) (length (now (work .entry))) (length (now (marks .entry))) ⌝ }
 {
-    let clear_floats = word(words, at + 15);
-    let clear_marks = word(words, at + 16);
     fill_work(work);
     fill_marks(marks);
     let out = alignment::find_transform_ecc_euclidean(
@@ -154,28 +203,55 @@ fn called(
         work,
         marks,
     );
-    let told = outcome_agrees(words, at, out);
-    told && work_agrees(work, clear_floats) && marks_agree(marks, clear_marks)
+    if !outcome_agrees(words, at, out) {
+        return false;
+    }
+    if !work_agrees(work, word(words, at + 15)) {
+        return false;
+    }
+    marks_agree(marks, word(words, at + 16))
 }
 
 // A length, or 0 where the word is more than the room.
 fn length_at(words: &[u64], i: usize, room: usize) -> usize
-    ensures { λ r. ⌜ r ≤ room ⌝ }
+    ensures { λ r. ⌜ (r ≤ room) × (r ≡ pick (leb (storedAt (now (words .entry)) i) room) (storedAt (now (words .entry)) i) 0) ⌝ }
 {
     let v = word(words, i);
     if v <= (room as u64) { v as usize } else { 0 }
 }
 
+// Whether the lengths fit the arrays below, and the line ends with the answer's words.
+fn is_whole(words: &[u64]) -> bool
+    ensures { λ r. ⌜ r ≡ isWhole (now (words .entry)) ⌝ }
+{
+    let t = word(words, 3);
+    let i = word(words, 4);
+    if t > 4200 {
+        return false;
+    }
+    if i > 4200 {
+        return false;
+    }
+    if word(words, 10) > 50000 {
+        return false;
+    }
+    if word(words, 11) > 4200 {
+        return false;
+    }
+    words.len() as u64 == 12 + t + i + 17
+}
+
 // Sides, lengths, settings, frames; the answer, and how much is cleared.
-fn call_agrees(words: &[u64]) -> bool {
+fn call_agrees(words: &[u64]) -> bool
+    ensures { λ r. ⌜ r ≡ callAgrees (now (words .entry)) ⌝ }
+{
+    if !is_whole(words) {
+        return false;
+    }
     let t = length_at(words, 3, 4200);
     let i = length_at(words, 4, 4200);
     let k = length_at(words, 10, 50000);
     let m = length_at(words, 11, 4200);
-    let at = FRAMES + t + i;
-    if !is_whole(words, at, k, m) {
-        return false;
-    }
     let mut template = [0u8; 4200];
     let mut input = [0u8; 4200];
     let mut work = [0.0f32; 50000];
@@ -184,7 +260,7 @@ fn call_agrees(words: &[u64]) -> bool {
     bytes(words, FRAMES + t, &mut input);
     called(
         words,
-        at,
+        FRAMES + t + i,
         &template[..t],
         &input[..i],
         &mut work[..k],
@@ -193,7 +269,9 @@ fn call_agrees(words: &[u64]) -> bool {
 }
 
 // A driver number, told by whether it is below 0 and by its distance to 0.
-fn pin_agrees(v: i16, below: u64, size: u64) -> bool {
+fn pin_agrees(v: i16, below: u64, size: u64) -> bool
+    ensures { λ r. ⌜ r ≡ pinAgrees v below size ⌝ }
+{
     if v < 0 {
         return below == 1 && text::size(v) == size;
     }
@@ -201,7 +279,9 @@ fn pin_agrees(v: i16, below: u64, size: u64) -> bool {
 }
 
 // The answer's number, theta, tx, ty.
-fn answer_at(words: &[u64]) -> Answer {
+fn answer_at(words: &[u64]) -> Answer
+    ensures { λ r. ⌜ r ≡ answerAt (now (words .entry)) ⌝ }
+{
     let number = word(words, 1);
     if number == 0 {
         return Answer::Posed {
@@ -215,14 +295,22 @@ fn answer_at(words: &[u64]) -> Answer {
 }
 
 // The answer; dx, dy and turn.
-fn pins_agree(words: &[u64]) -> bool {
+fn pins_agree(words: &[u64]) -> bool
+    ensures { λ r. ⌜ r ≡ pinsAgree (now (words .entry)) ⌝ }
+{
     let pins = driver::pins_of(answer_at(words));
-    pin_agrees(pins.dx, word(words, 5), word(words, 6))
-        && pin_agrees(pins.dy, word(words, 7), word(words, 8))
-        && pin_agrees(pins.turn, word(words, 9), word(words, 10))
+    if !pin_agrees(pins.dx, word(words, 5), word(words, 6)) {
+        return false;
+    }
+    if !pin_agrees(pins.dy, word(words, 7), word(words, 8)) {
+        return false;
+    }
+    pin_agrees(pins.turn, word(words, 9), word(words, 10))
 }
 
-pub fn agrees(kind: u64, words: &[u64]) -> bool {
+pub fn agrees(kind: u64, words: &[u64]) -> bool
+    ensures { λ r. ⌜ r ≡ callsAgree kind (now (words .entry)) ⌝ }
+{
     match kind {
         26 => call_agrees(words),
         27 => pins_agree(words),

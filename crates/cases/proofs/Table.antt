@@ -7,31 +7,31 @@ use Rattle.marks.specs.Marks.{countOn}
 use Rattle.floats.specs.Sums.{sumOver}
 use Rattle.numbers.specs.Numbers.{floorOf, nearestOf, roundOf, maxOf, absOf}
 use Rattle.root.specs.Root.{sqrtOf}
-use Rattle.series.specs.Series.{cosOf, sinOf, expNegOf}
-use Rattle.settings.specs.Sides.{scaledOf, sideOf, resizedOf}
-use Rattle.resize.specs.Resize.{placeOf, firstOf, tapOf, byteOf, blendOf, sampleOf, resizeOf}
+use Rattle.series.specs.Series.{over30Of, cosOf, sinOf, expNegOf}
+use Rattle.settings.specs.Sides.{scaledSideOf, sideOf, resizedOf}
+use Rattle.resize.specs.Resize.{placeOf, firstOf, tapOf, byteOf, lerpOf, bilinearOf, resizeOf}
 use Rattle.gradients.specs.Gradients.{gradientX, gradientY}
-use Rattle.pose.specs.Pose.{mapOf, isPose, identity, turnedOf, posedMatrix, matrixOf, posed}
-use Rattle.places.specs.Point.{sxOf, syOf, inside, markedAt, marksOf}
-use Rattle.warp.specs.Warp.{warpOf}
+use Rattle.pose.specs.Pose.{affineFromThetaTxTy, isPose, identity3, affineMatrix, posedMatrix, matrixOf, unscaledOf, toldOf}
+use Rattle.places.specs.Point.{sxOf, syOf, inside, markedAt, markOf, marksOf, indexOf}
+use Rattle.warp.specs.Warp.{fourOf, pixelOf, warpOf}
 use Rattle.warp.specs.Warp as warp
-use Rattle.checks.specs.Checks.{sizeOf, roomOf, settledOf, checkOf}
+use Rattle.checks.specs.Checks.{sizeOf, roomOf, limitsOf, checkOf}
 use Rattle.blur.specs.Blur.{blurOf}
 use Rattle.prepare.specs.Prepared.{grayOf, preparedOf}
 use Rattle.prepare.specs.Prepared as prepare
 use Rattle.stats.specs.Stats.{meanOf, centredOf, productOf, statsOf}
-use Rattle.inverse.specs.Inverse.{overOf, inverseOf, dotOf, timesOf}
+use Rattle.inverse.specs.Inverse.{rowsOverOf, inverseOf, dotOf, timesOf}
 use Rattle.sums.specs.Sums.{steepOf, projOf, hessianOf, errorOf}
 use Rattle.solve.specs.Solve.{movedOf, updateOf, solveOf}
 use Rattle.verdict.specs.Verdict.{verdictOf}
 use Rattle.pass.specs.Pass.{onward, weighedOf, passOf}
 use Rattle.runs.specs.Runs.{start, landed, next, after, outcomeOf}
 use Rattle.alignment.specs.Aligned.{passIn, runOf, alignedOf}
-use Rattle.driver.specs.Pins.{nearestHeld, pinOf, posedOf, pinsOf}
+use Rattle.driver.specs.Pins.{nearestCapped, pinOf, posedOf, pinsOf}
 use Rattle.cases.specs.Table.{Starred}
 
 pub starred : Starred
-unfolding add sub mul div round lt isNan ofInt ofBits toBits toUnsigned grow tab grid pick floorOf nearestOf roundOf maxOf sqrtOf cosOf sinOf expNegOf scaledOf sideOf resizedOf placeOf firstOf tapOf byteOf blendOf sampleOf resizeOf gradientX sum neg eq le overMarked countOn mapOf sxOf syOf inside markedAt marksOf warpOf warp.sampleOf isPose identity turnedOf posedMatrix matrixOf sizeOf roomOf settledOf checkOf blurOf grayOf prepare.scaledOf preparedOf gradientY meanOf centredOf productOf statsOf overOf inverseOf dotOf timesOf steepOf projOf hessianOf errorOf movedOf updateOf solveOf verdictOf onward weighedOf passOf start landed next after posed outcomeOf passIn runOf alignedOf sumOver absOf nearestHeld pinOf posedOf pinsOf
+unfolding add sub mul div round lt isNan ofInt ofBits toBits toUnsigned grow tab grid pick floorOf nearestOf roundOf maxOf sqrtOf over30Of cosOf sinOf expNegOf scaledSideOf sideOf resizedOf placeOf firstOf tapOf byteOf lerpOf bilinearOf resizeOf gradientX sum neg eq le overMarked countOn affineFromThetaTxTy sxOf syOf inside markedAt markOf marksOf indexOf fourOf warp.sampleOf pixelOf warpOf isPose identity3 affineMatrix posedMatrix matrixOf sizeOf roomOf limitsOf checkOf blurOf grayOf prepare.scaledOf preparedOf gradientY meanOf centredOf productOf statsOf rowsOverOf inverseOf dotOf timesOf steepOf projOf hessianOf errorOf movedOf updateOf solveOf verdictOf onward weighedOf passOf start landed next after unscaledOf outcomeOf passIn runOf alignedOf sumOver absOf nearestCapped pinOf posedOf toldOf pinsOf
 starred = record {
   marks-of-5x5 = refl;
   marks-of-4x5 = refl;

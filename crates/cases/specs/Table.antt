@@ -10,11 +10,10 @@ use Rattle.series.specs.Series.{cosOf, sinOf, expNegOf}
 use Rattle.settings.specs.Settings.{defaultsOf}
 use Rattle.settings.specs.Sides.{resizedOf}
 use Rattle.settings.specs.declared.EccConfig.{EccConfig}
-use Rattle.settings.specs.declared.LongEdge.the-variants.{Never}
 use Rattle.resize.specs.Resize.{resizeOf}
 use Rattle.gradients.specs.Gradients.{gradientX}
 use Rattle.marks.specs.Marks.{countOn}
-use Rattle.pose.specs.Pose.{mapOf, matrixOf}
+use Rattle.pose.specs.Pose.{affineFromThetaTxTy, matrixOf}
 use Rattle.pose.specs.declared.Answer.the-variants.{Posed, Refused}
 use Rattle.pose.specs.declared.Outcome.{Outcome}
 use Rattle.places.specs.Point.{marksOf}
@@ -35,7 +34,7 @@ eight r = r ++ (r ++ (r ++ (r ++ (r ++ (r ++ (r ++ r))))))
 
 -- how many pixels of w by h the pose at rest marks
 abbrev pub markedAtRest : ℕ → ℕ → ℕ
-markedAtRest w h = countOn (marksOf (mapOf (record { theta = 0f; tx = 0f; ty = 0f })) w h) (w * h)
+markedAtRest w h = countOn (marksOf (affineFromThetaTxTy (record { theta = 0f; tx = 0f; ty = 0f })) w h) (w * h)
 
 -- a call with both frames alike and just the room that it needs
 abbrev pub alike : List ℕ → ℕ → ℕ → EccConfig → Outcome
@@ -43,10 +42,10 @@ alike frame w h cfg = alignedOf frame frame w h cfg (12 * (w * h)) (w * h)
 
 -- the default settings with another filter, and with another number of passes
 abbrev pub filter : ℕ → EccConfig
-filter k = record { eps = defaultsOf .eps; «max_iter» = 100; «gauss_filt_size» = k; «resize_long_edge» = Never }
+filter k = record { eps = defaultsOf .eps; «max_iter» = defaultsOf .«max_iter»; «gauss_filt_size» = k; «resize_long_edge» = defaultsOf .«resize_long_edge» }
 
 abbrev pub passes : ℕ → EccConfig
-passes k = record { eps = defaultsOf .eps; «max_iter» = k; «gauss_filt_size» = 1; «resize_long_edge» = Never }
+passes k = record { eps = defaultsOf .eps; «max_iter» = k; «gauss_filt_size» = defaultsOf .«gauss_filt_size»; «resize_long_edge» = defaultsOf .«resize_long_edge» }
 
 -- dx of a pose with this bit pattern for tx
 abbrev pub dxAt : ℕ → ℤ
@@ -64,9 +63,9 @@ pub record Starred : Type 0 where
   -- 2: filter 0 and filter 2: number 1
   pub no-filter : alike (7 ∷ []) 1 1 (filter 0) ≡ record { passes = 0; answer = Refused 1 }
   pub even-filter : alike (7 ∷ []) 1 1 (filter 2) ≡ record { passes = 0; answer = Refused 1 }
-  -- 3: max_iter 0 on a 1x1 frame: a pose, all zero, rho -1, no pass; the matrix's first row has -0.0 second
+  -- 3: max_iter 0 on a 1x1 frame: a pose, all zero, rho -1, no pass; the first row of that answer's matrix has -0.0 second
   pub no-pass : alike (7 ∷ []) 1 1 (passes 0) ≡ record { passes = 0; answer = Posed 0f 0f 0f (neg 1f) }
-  pub no-pass-row : toBits binary32 (matrixOf (Posed 0f 0f 0f (neg 1f)) .m01) ≡ 0x8000_0000
+  pub no-pass-row : toBits binary32 (matrixOf (alike (7 ∷ []) 1 1 (passes 0) .answer) .m01) ≡ 0x8000_0000
   -- 4: 700x350 at edge 350 becomes 350x175; 400x4 becomes 350x8; 400x12 becomes 350x11
   pub sides-halved : resizedOf 350 700 350 ≡ record { w = 350; h = 175 }
   pub side-at-least-8 : resizedOf 350 400 4 ≡ record { w = 350; h = 8 }

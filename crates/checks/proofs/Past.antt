@@ -4,29 +4,27 @@ use mathlib.Core.Path.{_≡_, ap, _∙_}
 use native.Mathlib.Omega.{arith}
 use lib.Dec.{ltb, eqb, lit≤}
 use borrow.Author.Tests.{ltb-false, eqb-true, eqb-false}
+use Rattle.lists.specs.Premises.{InRange, OddFilter}
 use Rattle.lists.proofs.Cases.{passed, passed-by}
 use Rattle.settings.specs.Settings.{edgeOf}
 use Rattle.settings.specs.Sides.{resizedOf}
 use Rattle.settings.specs.declared.EccConfig.{EccConfig}
 use Rattle.settings.specs.declared.Sides.{Sides}
-use Rattle.checks.specs.Checks.{sizeOf, roomOf, settledOf, checkOf}
+use Rattle.checks.specs.Checks.{sizeOf, roomOf, limitsOf, checkOf}
 
-pub record Past (t i w h : ℕ) (cfg : EccConfig) (k m : ℕ) : Type 0 where
-  pub width-some : 1 ≤ w
-  pub width-most : w ≤ 4096
-  pub height-some : 1 ≤ h
-  pub height-most : h ≤ 4096
-  pub template-fits : t ≡ w * h
-  pub input-fits : i ≡ w * h
-  pub filter-odd : cfg .«gauss_filt_size» % 2 ≡ 1
-  pub filter-most : cfg .«gauss_filt_size» ≤ 31
+-- of a template, an input, work and marks of these lengths
+pub record Past (template input w h : ℕ) (cfg : EccConfig) (work marks : ℕ) : Type 0 where
+  pub sides : InRange w h
+  pub template-fits : template ≡ w * h
+  pub input-fits : input ≡ w * h
+  pub filter : OddFilter (cfg .«gauss_filt_size»)
   pub passes-most : cfg .«max_iter» ≤ 1000
-  pub work-fits : 12 * sizeOf cfg w h ≤ k
-  pub marks-fit : sizeOf cfg w h ≤ m
+  pub work-fits : 12 * sizeOf cfg w h ≤ work
+  pub marks-fit : sizeOf cfg w h ≤ marks
 
-pub past : (t i w h : ℕ) (cfg : EccConfig) (k m : ℕ) → checkOf t i w h cfg k m ≡ 0 → Past t i w h cfg k m
-unfolding checkOf settledOf roomOf
-past t i w h cfg k m e =
+pub past : (template input w h : ℕ) (cfg : EccConfig) (work marks : ℕ) → checkOf template input w h cfg work marks ≡ 0 → Past template input w h cfg work marks
+unfolding checkOf limitsOf roomOf
+past template input w h cfg work marks e =
     let a = passed-by _ 2 _ (lit≤ tt) e in
     let b = passed-by _ 2 _ (lit≤ tt) (a .1) in
     let c = passed-by _ 1 _ (lit≤ tt) (b .1) in
@@ -42,14 +40,10 @@ past t i w h cfg k m e =
     let h0 = eqb-false h 0 (d .0) in
     let k0 = eqb-false (cfg .«gauss_filt_size» % 2) 0 (o .0) in
     record {
-      width-some = omega (arith, w0);
-      width-most = ltb-false _ _ (a .0);
-      height-some = omega (arith, h0);
-      height-most = ltb-false _ _ (b .0);
+      sides = record { w-least = omega (arith, w0); w-most = ltb-false _ _ (a .0); h-least = omega (arith, h0); h-most = ltb-false _ _ (b .0) };
       template-fits = eqb-true _ _ (f .0);
       input-fits = eqb-true _ _ (g .0);
-      filter-odd = omega (arith, k0);
-      filter-most = ltb-false _ _ (p .0);
+      filter = record { odd = omega (arith, k0); most = ltb-false _ _ (p .0) };
       passes-most = ltb-false _ _ (q .0);
       work-fits = ltb-false _ _ (r .0);
       marks-fit = ltb-false _ _ (s .0);

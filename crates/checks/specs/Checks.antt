@@ -10,23 +10,23 @@ use Rattle.settings.specs.declared.EccConfig.{EccConfig}
 unfoldable pub sizeOf : EccConfig → ℕ → ℕ → ℕ
 sizeOf cfg w h = let s = resizedOf (edgeOf cfg) w h in s .w * s .h
 
--- 4: work or marks too short, k and m long
+-- 4: work or marks too short. `work` and `marks` are their lengths, here and below
 unfoldable pub roomOf : EccConfig → ℕ → ℕ → ℕ → ℕ → ℕ
-roomOf cfg w h k m = pick (ltb k (12 * sizeOf cfg w h)) 4 (pick (ltb m (sizeOf cfg w h)) 4 0)
+roomOf cfg w h work marks = pick (ltb work (12 * sizeOf cfg w h)) 4 (pick (ltb marks (sizeOf cfg w h)) 4 0)
 
 -- filter 0 or even: 1; then filter above 31 or max_iter above 1,000: 3; then the room
-unfoldable pub settledOf : EccConfig → ℕ → ℕ → ℕ → ℕ → ℕ
-settledOf cfg w h k m =
+unfoldable pub limitsOf : EccConfig → ℕ → ℕ → ℕ → ℕ → ℕ
+limitsOf cfg w h work marks =
     pick (eqb (cfg .«gauss_filt_size» % 2) 0) 1
     (pick (ltb 31 (cfg .«gauss_filt_size»)) 3
-    (pick (ltb 1000 (cfg .«max_iter»)) 3 (roomOf cfg w h k m)))
+    (pick (ltb 1000 (cfg .«max_iter»)) 3 (roomOf cfg w h work marks)))
 
--- the checks in document 01's order: 2, zero side, lengths, filter 0 or even, 3, 4; 0 where all pass. t, i, k and m are the lengths of template, input, work
--- and marks
+-- the checks in document 01's order: 2, zero side, lengths, filter 0 or even, 3, 4; 0 where all pass. Template, input, work and marks
+-- are given by their lengths
 unfoldable pub checkOf : ℕ → ℕ → ℕ → ℕ → EccConfig → ℕ → ℕ → ℕ
-checkOf t i w h cfg k m =
+checkOf template input w h cfg work marks =
     pick (ltb 4096 w) 2
     (pick (ltb 4096 h) 2
     (pick (eqb w 0) 1
     (pick (eqb h 0) 1
-    (pick (eqb t (w * h)) (pick (eqb i (w * h)) (settledOf cfg w h k m) 1) 1))))
+    (pick (eqb template (w * h)) (pick (eqb input (w * h)) (limitsOf cfg w h work marks) 1) 1))))

@@ -1,12 +1,13 @@
 // The alignment's own checks of sides, lengths, settings and room, in document 01's order. Any numbers may be handed in.
 ghost use mathlib.Core.Path.{_≡_};
 ghost use Prim.Native.Nat.{_≤_};
-ghost use Rattle.checks.specs.Checks.{sizeOf, roomOf, settledOf, checkOf};
+ghost use Rattle.lists.specs.Premises.{InRange};
+ghost use Rattle.checks.specs.Checks.{sizeOf, roomOf, limitsOf, checkOf};
 use settings::EccConfig;
 
 // How many pixels an image has after resizing.
 fn size(cfg: EccConfig, w: usize, h: usize) -> usize
-    requires { ⌜ (1 ≤ w) × (w ≤ 4096) × (1 ≤ h) × (h ≤ 4096) ⌝ }
+    requires { ⌜ InRange w h ⌝ }
     ensures { λ r. ⌜ (r ≡ sizeOf cfg w h) × (r ≤ 16777216) ⌝ }
 {
     let s = settings::resized(cfg.edge(), w, h);
@@ -15,7 +16,7 @@ fn size(cfg: EccConfig, w: usize, h: usize) -> usize
 
 // The room that sides and settings in range need: 12n floats and n marks.
 fn room(cfg: EccConfig, w: usize, h: usize, work: usize, marks: usize) -> u8
-    requires { ⌜ (1 ≤ w) × (w ≤ 4096) × (1 ≤ h) × (h ≤ 4096) ⌝ }
+    requires { ⌜ InRange w h ⌝ }
     ensures { λ r. ⌜ r ≡ roomOf cfg w h work marks ⌝ }
 {
     let n = size(cfg, w, h);
@@ -28,13 +29,13 @@ fn room(cfg: EccConfig, w: usize, h: usize, work: usize, marks: usize) -> u8
     0
 }
 
-// The number of the first check that fails, or 0. The last four numbers are the lengths of template, input, work and marks.
+// The number of the first check that fails, or 0. Template, input, work and marks are given by their lengths.
 pub fn check(
-    cfg: EccConfig,
-    w: usize,
-    h: usize,
     template: usize,
     input: usize,
+    w: usize,
+    h: usize,
+    cfg: EccConfig,
     work: usize,
     marks: usize,
 ) -> u8
@@ -58,13 +59,13 @@ pub fn check(
     if input != w * h {
         return 1;
     }
-    settled(cfg, w, h, work, marks)
+    limits(cfg, w, h, work, marks)
 }
 
-// The settings' own checks, and the room.
-fn settled(cfg: EccConfig, w: usize, h: usize, work: usize, marks: usize) -> u8
-    requires { ⌜ (1 ≤ w) × (w ≤ 4096) × (1 ≤ h) × (h ≤ 4096) ⌝ }
-    ensures { λ r. ⌜ r ≡ settledOf cfg w h work marks ⌝ }
+// The settings' limits, then the room.
+fn limits(cfg: EccConfig, w: usize, h: usize, work: usize, marks: usize) -> u8
+    requires { ⌜ InRange w h ⌝ }
+    ensures { λ r. ⌜ r ≡ limitsOf cfg w h work marks ⌝ }
 {
     let ksize = cfg.gauss_filt_size;
     if ksize % 2 == 0 {

@@ -1,2 +1,3 @@
 pub mod Commits
 pub mod Library
+pub mod Program

@@ -19,14 +19,14 @@ use Rattle.prepare.specs.Prepared.{preparedOf}
 use Rattle.checks.specs.Checks.{sizeOf, checkOf}
 use Rattle.checks.proofs.Past.{past}
 use Rattle.marks.specs.Marks.{on, countOn}
-use Rattle.pose.specs.Pose.{mapOf}
+use Rattle.pose.specs.Pose.{affineFromThetaTxTy}
 use Rattle.pose.specs.declared.Pose.{Pose}
 use Rattle.pose.specs.declared.Outcome.{Outcome}
 use Rattle.places.specs.Point.{marksOf}
 use Rattle.stats.specs.Stats.{meanOf, centredOf}
 use Rattle.solve.specs.declared.Step.{Step}
 use Rattle.pass.specs.Pass.{weighedOf, passOf}
-use Rattle.runs.specs.Runs.{Run, going, settled, refused, landed, next, after, outcomeOf}
+use Rattle.runs.specs.Runs.{Run, going, stopped, refused, landed, next, after, outcomeOf}
 use Rattle.alignment.specs.Aligned.{passIn, runOf, alignedOf}
 use Rattle.demands.specs.Agree.{marksNext, runAfter, preparedAt, SeenAlike}
 use Rattle.demands.proofs.Bits.{prepared-same}
@@ -53,14 +53,14 @@ module _ (xs ys : List Float) where
     abbrev other : Pose → Float → Step
     other = passOf ys input gx gy w h eps
 
-    pass-same : (p : Pose) (last : Float) → ((i : ℕ) → i < w * h → on (marksOf (mapOf p) w h) i ≡ true → getD xs i nan ≡ getD ys i nan) → one p last ≡ other p last
+    pass-same : (p : Pose) (last : Float) → ((i : ℕ) → i < w * h → on (marksOf (affineFromThetaTxTy p) w h) i ≡ true → getD xs i nan ≡ getD ys i nan) → one p last ≡ other p last
     unfolding passOf weighedOf
-    pass-same p last alike = rw (centred-same (marksOf (mapOf p) w h) (w * h) alike)
+    pass-same p last alike = rw (centred-same (marksOf (affineFromThetaTxTy p) w h) (w * h) alike)
 
     next-same : (r : Run) → ((i : ℕ) → i < w * h → marksNext w h r i ≡ true → getD xs i nan ≡ getD ys i nan) → next one r ≡ next other r
     unfolding next marksNext
     next-same (going k p rho last) alike = ap (landed k p) (pass-same p last alike)
-    next-same (settled k p rho) alike = refl
+    next-same (stopped k p rho) alike = refl
     next-same (refused k n) alike = refl
 
     after-same : (m : ℕ) → ((k i : ℕ) → k < m → i < w * h → marksNext w h (after one k) i ≡ true → getD xs i nan ≡ getD ys i nan) → after one m ≡ after other m
@@ -85,22 +85,23 @@ module _ (template template′ input : List ℕ) (w h : ℕ) (cfg : EccConfig) (
       (after-same (preparedOf template w h tw th ksize) (preparedOf template′ w h tw th ksize) _ _ _ tw th (cfg .eps) (cfg .«max_iter»)
       (λ k i l m e. prepared-same template template′ w h tw th ksize f f′ i m (alike i (record { done = k; few = l; within = m; marked = e }))))
 
--- THE THEOREM
-pub same-answer : (template template′ input : List ℕ) (w h : ℕ) (cfg : EccConfig) (k m : ℕ) →
+-- THE THEOREM, of the definition that the alignment's contract cites
+pub same-aligned : (template template′ input : List ℕ) (w h : ℕ) (cfg : EccConfig) (k m k′ m′ : ℕ) →
     checkOf (length template) (length input) w h cfg k m ≡ 0 →
-    checkOf (length template′) (length input) w h cfg k m ≡ 0 →
+    checkOf (length template′) (length input) w h cfg k′ m′ ≡ 0 →
     SeenAlike template template′ input w h cfg →
-    alignedOf template input w h cfg k m ≡ alignedOf template′ input w h cfg k m
+    alignedOf template input w h cfg k m ≡ alignedOf template′ input w h cfg k′ m′
 unfolding alignedOf
-same-answer template template′ input w h cfg k m checked checked′ alike =
+same-aligned template template′ input w h cfg k m k′ m′ checked checked′ alike =
     pick-true _ _ _ (eq-eqb _ 0 checked)
-    ∙ run-same template template′ input w h cfg alike (past _ _ w h cfg k m checked .template-fits) (past _ _ w h cfg k m checked′ .template-fits)
+    ∙ run-same template template′ input w h cfg alike (past _ _ w h cfg k m checked .template-fits) (past _ _ w h cfg k′ m′ checked′ .template-fits)
     ∙ sym (pick-true _ _ _ (eq-eqb _ 0 checked′))
 
--- so of any two results that the alignment's contract admits for the two calls
-pub same-result : (template template′ input : List ℕ) (w h : ℕ) (cfg : EccConfig) (k m : ℕ) →
+-- of two calls with the same input, sides and settings
+pub same-result : (template template′ : List ℕ) {input input′ : List ℕ} {w w′ h h′ : ℕ} {cfg cfg′ : EccConfig} (k m k′ m′ : ℕ) {o o′ : Outcome} → input ≡ input′ → w ≡ w′ → h ≡ h′ → cfg ≡ cfg′ →
     checkOf (length template) (length input) w h cfg k m ≡ 0 →
-    checkOf (length template′) (length input) w h cfg k m ≡ 0 →
+    checkOf (length template′) (length input′) w′ h′ cfg′ k′ m′ ≡ 0 →
     SeenAlike template template′ input w h cfg →
-    (r r′ : Outcome) → r ≡ alignedOf template input w h cfg k m → r′ ≡ alignedOf template′ input w h cfg k m → r ≡ r′
-same-result template template′ input w h cfg k m checked checked′ alike r r′ e e′ = e ∙ same-answer template template′ input w h cfg k m checked checked′ alike ∙ sym e′
+    o ≡ alignedOf template input w h cfg k m → o′ ≡ alignedOf template′ input′ w′ h′ cfg′ k′ m′ → o ≡ o′
+same-result template template′ {input} {w = w} {h = h} {cfg = cfg} k m k′ m′ i v j c checked checked′ alike e e′ =
+    e ∙ same-aligned template template′ input w h cfg k m k′ m′ checked (rw (i, v, j, c) checked′) alike ∙ rw (i, v, j, c) (sym e′)

@@ -14,7 +14,7 @@ use Rattle.lists.proofs.Grow.{getD-tab, grid-all}
 use Rattle.floats.specs.F32.{f32}
 use Rattle.floats.specs.Sums.{sumTo}
 use Rattle.floats.proofs.Sums.{to-none, to-more}
-use Rattle.resize.specs.Resize.{blendOf, sampleOf, resizeOf}
+use Rattle.resize.specs.Resize.{lerpOf, bilinearOf, resizeOf}
 use Rattle.resize.specs.declared.Tap.{Tap}
 use Rattle.blur.specs.Blur.{columnsOf, blurOf}
 use Rattle.prepare.specs.Prepared.{grayOf, preparedOf}
@@ -27,8 +27,8 @@ sum-fits : (f : ℕ → Float) (n : ℕ) → Fit (sumTo f n)
 sum-fits f zero = subst Fit (sym (to-none f)) (ofBits-fits binary32 0)
 sum-fits f (suc n) = rw (← add-one n, to-more f n) (add-fits binary32 _ _)
 
-sample-fits : (src : List ℕ) (w : ℕ) (tx ty : Tap) → Fit (sampleOf src w tx ty)
-unfolding sampleOf blendOf
+sample-fits : (src : List ℕ) (w : ℕ) (tx ty : Tap) → Fit (bilinearOf src w tx ty)
+unfolding bilinearOf lerpOf
 sample-fits src w tx ty = add-fits binary32 _ _
 
 module _ (bytes : List ℕ) (w h tw th ksize : ℕ) (sized : length bytes ≡ w * h) (i : ℕ) (l : i < tw * th) where

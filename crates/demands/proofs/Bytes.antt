@@ -4,7 +4,7 @@ use mathlib.Core.Path.{_≡_, refl, sym, ap, subst, _∙_}
 use mathlib.Core.Logic.{_⊎_, inl, inr}
 use mathlib.Core.List.{List}
 use native.Mathlib.Nat.{le-of-eq}
-use lib.ListN.{length, getD, set, length-set}
+use lib.ListN.{length, getD, set}
 use lib.Seq.{getD-set-other}
 use lib.Ieee.{Float, binary32, nan, toBits}
 use Rattle.lists.proofs.Grow.{getD-tab}
@@ -17,11 +17,8 @@ use Rattle.settings.specs.declared.Sides.{Sides}
 use Rattle.settings.proofs.Resizing.{resized-off, resized-kept}
 use Rattle.prepare.specs.Prepared.{grayOf, preparedOf}
 use Rattle.prepare.proofs.Frames.{scaled-same, prepared-one}
-use Rattle.checks.specs.Checks.{sizeOf, checkOf}
-use Rattle.checks.proofs.Past.{past}
-use Rattle.alignment.specs.Aligned.{alignedOf}
+use Rattle.checks.specs.Checks.{sizeOf}
 use Rattle.demands.specs.Agree.{Marked, preparedAt, SeenAlike, Plain, BytesAlike}
-use Rattle.demands.proofs.Agree.{same-answer}
 
 module _ (w h : ℕ) (cfg : EccConfig) where
   -- edge 0, or a longer side that does not exceed the edge
@@ -44,26 +41,14 @@ module _ (w h : ℕ) (cfg : EccConfig) where
         ∙ ap (λ (z : List Float). getD z i nan) (prepared-one bytes w h w h ksize (P .filter-one) ∙ scaled-same bytes w h w h refl refl)
         ∙ getD-tab (length bytes) i (λ i. f32 (getD bytes i 0)) nan few
 
--- the theorem in bytes
-pub same-bytes : (template template′ input : List ℕ) (w h : ℕ) (cfg : EccConfig) (k m : ℕ) → Plain w h cfg →
-    checkOf (length template) (length input) w h cfg k m ≡ 0 →
-    checkOf (length template′) (length input) w h cfg k m ≡ 0 →
-    BytesAlike template template′ input w h cfg →
-    alignedOf template input w h cfg k m ≡ alignedOf template′ input w h cfg k m
+-- templates whose bytes agree at the marked pixels hold the same bits there
+pub bytes-seen : (template template′ input : List ℕ) (w h : ℕ) (cfg : EccConfig) → Plain w h cfg → length template ≡ w * h → length template′ ≡ w * h →
+    BytesAlike template template′ input w h cfg → SeenAlike template template′ input w h cfg
 unfolding BytesAlike SeenAlike
-same-bytes template template′ input w h cfg k m P checked checked′ alike =
-    same-answer template template′ input w h cfg k m checked checked′
-    (λ i s. ap (toBits binary32)
-    (pixel-is w h cfg P template i (past _ _ w h cfg k m checked .template-fits) (s .within)
-    ∙ ap f32 (alike i s)
-    ∙ sym (pixel-is w h cfg P template′ i (past _ _ w h cfg k m checked′ .template-fits) (s .within))))
+bytes-seen template template′ input w h cfg P sized sized′ alike i s =
+    ap (toBits binary32) (pixel-is w h cfg P template i sized (s .within) ∙ ap f32 (alike i s) ∙ sym (pixel-is w h cfg P template′ i sized′ (s .within)))
 
--- a byte that is marked in no pass may be any other
-pub byte-unseen : (template input : List ℕ) (w h : ℕ) (cfg : EccConfig) (k m : ℕ) → Plain w h cfg →
-    checkOf (length template) (length input) w h cfg k m ≡ 0 →
-    (i v : ℕ) → (Marked template input w h cfg i → ⊥) →
-    alignedOf template input w h cfg k m ≡ alignedOf (set template i v) input w h cfg k m
+-- a template with a byte changed that no pass marks
+pub changed-alike : (template input : List ℕ) (w h : ℕ) (cfg : EccConfig) (i v : ℕ) → (Marked template input w h cfg i → ⊥) → BytesAlike template (set template i v) input w h cfg
 unfolding BytesAlike
-byte-unseen template input w h cfg k m P checked i v unmarked =
-    same-bytes template (set template i v) input w h cfg k m P checked (rw (length-set template i v) checked)
-    (λ j s. sym (getD-set-other template i j v 0 (λ e. unmarked (subst (Marked template input w h cfg) e s))))
+changed-alike template input w h cfg i v unmarked j s = sym (getD-set-other template i j v 0 (λ e. unmarked (subst (Marked template input w h cfg) e s)))

@@ -1,33 +1,39 @@
--- Demand 1, for any input: past the checks an answer is a pose of four finite numbers or a refusal from 5 to 10, after max_iter passes at
--- the most; before them it is a refusal from 1 to 4 with no pass. So the answer's number says whether work and marks were cleared.
+-- Demand 1, for any input: past the checks an answer is a pose of four finite numbers, theta in -2..2, or a refusal from 5 to 10, after max_iter
+-- passes at the most; before them it is a refusal from 1 to 4 with no pass. So the answer's number says whether work and marks were cleared.
 -- Assumes nothing.
-use Prim.Native.Nat.{ℕ, zero, suc, _≤_}
-use mathlib.Core.Path.{_≡_, refl, sym, subst, _∙_}
-use mathlib.Core.Bool.{Bool, true, false, _||_}
+use Prim.Native.Nat.{ℕ, zero, suc, _+_, _-_, _*_, _≤_, _<_}
+use mathlib.Core.Path.{_≡_, refl, sym, ap, subst, _∙_}
+use mathlib.Core.Bool.{Bool, true, false, not, _&&_, _||_}
 use mathlib.Core.List.{List}
+use mathlib.Core.Logic.{_⊎_, inl, inr}
+use native.Mathlib.Nat.{eq-or-lt-of-le}
 use native.Mathlib.Omega.{arith}
-use borrow.Author.Tests.{eqb-false, le-leb, lt-leb}
-use lib.Dec.{T, leb, eqb, lit≤, leb→le, le→leb}
-use lib.Ieee.{Float, nan, inf, fin, neg, ofBits}
-use lib.Ieee.Fits.{and-l, and-r, and-i}
+use borrow.Author.Tests.{lt-ltb, eq-eqb, eqb-true, eqb-false}
+use lib.Dec.{T, ltb, eqb, lit≤}
+use lib.Ieee.{Float, nan, inf, fin, up, down, neg, le, ofBits}
+use lib.Ieee.Fits.{and-l, and-r, down-pos}
 use lib.Ieee.Scale.{finite}
 use lib.ListN.{length}
 use Rattle.lists.specs.Marked.{pick}
-use Rattle.lists.proofs.Cases.{pick-where, pick-both, pick-true, pick-false}
+use Rattle.lists.proofs.Cases.{choose, pick-where, pick-both, pick-true, pick-false}
+use Rattle.lists.proofs.Every.{every, every-at}
+use Rattle.lists.proofs.Fill.{front-is}
 use Rattle.floats.specs.Bound.{Within}
+use Rattle.floats.specs.F32.{0f, 2f}
 use Rattle.settings.specs.declared.EccConfig.{EccConfig}
-use Rattle.checks.specs.Checks.{roomOf, settledOf, checkOf}
-use Rattle.pose.specs.Pose.{numberOf, posed}
+use Rattle.checks.specs.Checks.{sizeOf, roomOf, limitsOf, checkOf}
+use Rattle.checks.proofs.Past.{past}
+use Rattle.pose.specs.Pose.{numberOf, unscaledOf, toldOf}
 use Rattle.pose.specs.declared.Pose.{Pose}
 use Rattle.pose.specs.declared.Answer.{Answer}
 use Rattle.pose.specs.declared.Answer.the-variants.{Posed, Refused}
 use Rattle.pose.specs.declared.Outcome.{Outcome}
 use Rattle.solve.specs.declared.Step.{Step}
 use Rattle.solve.specs.declared.Step.the-variants.{Refuse, Stop, Move}
-use Rattle.runs.specs.Runs.{Run, going, settled, refused, start, landed, next, after, outcomeOf}
+use Rattle.runs.specs.Runs.{Run, going, stopped, refused, start, landed, next, after, outcomeOf}
 use Rattle.runs.proofs.Moves.{Sound, pass-sound}
-use Rattle.alignment.specs.Aligned.{passIn, runOf, alignedOf}
-use Rattle.demands.specs.Finite.{endsIn, clears}
+use Rattle.alignment.specs.Aligned.{passIn, runOf, alignedOf, workAfter, marksAfter}
+use Rattle.demands.specs.Finite.{endsIn, clears, CallEnded}
 
 -- ---- the passes
 
@@ -40,7 +46,7 @@ within-finite (fin s m e) a c w = refl
 -- after at most m passes: theta from -2 to 2 and a finite correlation, or a refusal from 5 to 10
 abbrev SoundRun : ℕ → Run → Type 0
 SoundRun m (going k p rho last) = (k ≤ m) × Within (p .theta) 2 1 × (finite rho ≡ true)
-SoundRun m (settled k p rho) = (k ≤ m) × Within (p .theta) 2 1 × (finite rho ≡ true)
+SoundRun m (stopped k p rho) = (k ≤ m) × Within (p .theta) 2 1 × (finite rho ≡ true)
 SoundRun m (refused k n) = (k ≤ m) × (5 ≤ n) × (n ≤ 10)
 
 module _ (pass : Pose → Float → Step) (sound : (p : Pose) (last : Float) → Sound (pass p last)) where
@@ -53,7 +59,7 @@ module _ (pass : Pose → Float → Step) (sound : (p : Pose) (last : Float) →
   next-sound : (m : ℕ) (r : Run) → SoundRun m r → SoundRun (suc m) (next pass r)
   unfolding next
   next-sound m (going k p rho last) s = landed-sound m k p (s .0) (s .1) (pass p last) (sound p last)
-  next-sound m (settled k p rho) s = (omega (arith, s .0), s .1, s .2)
+  next-sound m (stopped k p rho) s = (omega (arith, s .0), s .1, s .2)
   next-sound m (refused k n) s = (omega (arith, s .0), s .1, s .2)
 
   after-sound : (m : ℕ) → SoundRun m (after pass m)
@@ -62,28 +68,58 @@ module _ (pass : Pose → Float → Step) (sound : (p : Pose) (last : Float) →
   after-sound (suc m) = next-sound m (after pass m) (after-sound m)
 
 -- ---- the answer
-abbrev Ends : ℕ → Outcome → Type 0
-Ends m o = (o .passes ≤ m) × T (endsIn 5 10 (o .answer))
 
-posed-ends : (sx sy : Float) (p : Pose) (rho : Float) → finite (p .theta) ≡ true → finite rho ≡ true → T (endsIn 5 10 (posed sx sy p rho))
-unfolding posed endsIn
-posed-ends sx sy p rho t r =
-    pick-where (λ (a : Answer). T (endsIn 5 10 a)) _ _ _
-    (λ x. pick-where (λ (a : Answer). T (endsIn 5 10 a)) _ _ _ (λ y. rw (t, x, y, r) tt) tt)
-    tt
+or-true : (b : Bool) → (b || true) ≡ true
+or-true true = refl
+or-true false = refl
+
+-- a ≤ b, as the comparison of two floats has it: less, or equal with like signs
+at-most : (a b : ℕ) (same : Bool) → a ≤ b → (a ≡ b → same ≡ true) → (ltb a b || (same && true)) ≡ true
+at-most a b same h f = by (eq-or-lt-of-le h)
+  where
+    by : (a ≡ b) ⊎ (a < b) → (ltb a b || (same && true)) ≡ true
+    by (inl e) = rw (f e) (or-true (ltb a b))
+    by (inr l) = rw (lt-ltb a b l) refl
+
+-- a size of at most 2 is in -2..2
+turn-in : (x : Float) → Within x 2 1 → (le (neg 2f) x ≡ true) × (le x 2f ≡ true)
+unfolding le neg ofBits
+turn-in nan w = absurd w
+turn-in (inf s) w = absurd w
+turn-in (fin false m e) w =
+    let d = down-pos e in
+    (rw (lt-ltb 0 (2 * down e + m * up e * 1) (omega (arith, d))) refl, at-most (m * up e * 1) (2 * down e) _ (omega (arith, w)) (eq-eqb _ _))
+turn-in (fin true m e) w =
+    let d = down-pos e in
+    (at-most (m * up e * 1) (2 * down e) _ (omega (arith, w)) (λ q. eq-eqb _ _ (sym q)), rw (lt-ltb 0 (m * up e * 1 + 2 * down e) (omega (arith, d))) refl)
+
+-- what passes come to: a pose as demand 1 asks, or a number from 5 to 10
+abbrev pub Late : Answer → Type 0
+Late (Posed theta tx ty rho) = T (endsIn 1 10 (Posed theta tx ty rho))
+Late (Refused n) = (5 ≤ n) × (n ≤ 10)
+
+abbrev Ends : ℕ → Outcome → Type 0
+Ends m o = (o .passes ≤ m) × Late (o .answer)
+
+posed-late : (sx sy : Float) (p : Pose) (rho : Float) → Within (p .theta) 2 1 → finite rho ≡ true → Late (unscaledOf sx sy p rho)
+unfolding unscaledOf endsIn
+posed-late sx sy p rho t r =
+    let f = within-finite (p .theta) 2 1 t in
+    let i = turn-in (p .theta) t in
+    pick-where Late _ _ _ (λ x. pick-where Late _ _ _ (λ y. rw (f, x, y, r, i .0, i .1) tt) (lit≤ tt, lit≤ tt)) (lit≤ tt, lit≤ tt)
 
 outcome-ends : (sx sy : Float) (m : ℕ) (r : Run) → SoundRun m r → Ends m (outcomeOf sx sy r)
-unfolding outcomeOf endsIn
-outcome-ends sx sy m (going k p rho last) s = (s .0, posed-ends sx sy p rho (within-finite (p .theta) 2 1 (s .1)) (s .2))
-outcome-ends sx sy m (settled k p rho) s = (s .0, posed-ends sx sy p rho (within-finite (p .theta) 2 1 (s .1)) (s .2))
-outcome-ends sx sy m (refused k n) s = (s .0, and-i (leb 5 n) (leb n 10) (le→leb 5 n (s .1)) (le→leb n 10 (s .2)))
+unfolding outcomeOf
+outcome-ends sx sy m (going k p rho last) s = (s .0, posed-late sx sy p rho (s .1) (s .2))
+outcome-ends sx sy m (stopped k p rho) s = (s .0, posed-late sx sy p rho (s .1) (s .2))
+outcome-ends sx sy m (refused k n) s = (s .0, (s .1, s .2))
 
 -- ---- the checks have the numbers 1 to 4
 abbrev Early : ℕ → Type 0
 Early n = n ≤ 4
 
 pub check-ends : (t i w h : ℕ) (cfg : EccConfig) (k m : ℕ) → checkOf t i w h cfg k m ≤ 4
-unfolding checkOf settledOf roomOf
+unfolding checkOf limitsOf roomOf
 check-ends t i w h cfg k m =
     pick-both Early _ _ _ (lit≤ tt)
     (pick-both Early _ _ _ (lit≤ tt)
@@ -93,26 +129,42 @@ check-ends t i w h cfg k m =
     room : Early (roomOf cfg w h k m)
     room = pick-both Early _ _ _ (lit≤ tt) (pick-both Early _ _ _ (lit≤ tt) (lit≤ tt))
 
-    settings : Early (settledOf cfg w h k m)
+    settings : Early (limitsOf cfg w h k m)
     settings = pick-both Early _ _ _ (lit≤ tt) (pick-both Early _ _ _ (lit≤ tt) (pick-both Early _ _ _ (lit≤ tt) room))
 
--- ---- the call
-or-true : (b : Bool) → (b || true) ≡ true
-or-true true = refl
-or-true false = refl
+-- ---- the numbers, each tried
 
-late : (a : Answer) → T (endsIn 5 10 a) → T (endsIn 1 10 a) × (clears (numberOf a) ≡ true)
-unfolding endsIn numberOf clears
+-- a test of the k numbers from a on
+pub numbers : (a k : ℕ) (p : ℕ → Bool) → T (every k (λ i. p (a + i))) → (n : ℕ) → a ≤ n → n < a + k → T (p n)
+numbers a k p t n l h =
+    let e : a + (n - a) ≡ n = omega arith in
+    subst (λ (z : ℕ). T (p z)) e (every-at k (λ i. p (a + i)) (n - a) t (omega arith))
+
+pub is-true : (b : Bool) → T b → b ≡ true
+is-true true t = refl
+is-true false t = absurd t
+
+is-false : (b : Bool) → T (not b) → b ≡ false
+is-false true t = absurd t
+is-false false t = refl
+
+-- 5 to 10 are of the table, and clear
+late : (a : Answer) → Late a → T (endsIn 1 10 a) × (clears (numberOf a) ≡ true)
+unfolding endsIn toldOf clears every
 late (Posed theta tx ty rho) t = (t, refl)
 late (Refused n) t =
-    let low = leb→le 5 n (and-l (leb 5 n) (leb n 10) t) in
-    (and-i (leb 1 n) (leb n 10) (le→leb 1 n (omega (arith, low))) (and-r (leb 5 n) (leb n 10) t), rw (le-leb 5 n low) (or-true (eqb n 0)))
+    let b = numbers 5 6 (λ n. endsIn 1 10 (Refused n) && clears n) tt n (t .0) (omega (arith, t .1)) in
+    (and-l (endsIn 1 10 (Refused n)) (clears n) b, is-true (clears n) (and-r (endsIn 1 10 (Refused n)) (clears n) b))
 
+-- 1 to 4 are of the table, and do not
 early : (n : ℕ) → n ≤ 4 → eqb n 0 ≡ false → T (endsIn 1 10 (Refused n)) × (clears n ≡ false)
-unfolding endsIn clears
+unfolding endsIn clears every
 early n h e =
     let some = eqb-false n 0 e in
-    (and-i (leb 1 n) (leb n 10) (le→leb 1 n (omega (arith, some))) (le→leb n 10 (omega (arith, h))), rw (e, lt-leb 5 n (omega (arith, h))))
+    let b = numbers 1 4 (λ n. endsIn 1 10 (Refused n) && not (clears n)) tt n (omega (arith, some)) (omega (arith, h)) in
+    (and-l (endsIn 1 10 (Refused n)) (not (clears n)) b, is-false (clears n) (and-r (endsIn 1 10 (Refused n)) (not (clears n)) b))
+
+-- ---- the call
 
 module _ (template input : List ℕ) (w h : ℕ) (cfg : EccConfig) where
   -- past the checks
@@ -125,21 +177,27 @@ module _ (template input : List ℕ) (w h : ℕ) (cfg : EccConfig) where
     abbrev number : ℕ
     number = checkOf (length template) (length input) w h cfg k m
 
-    abbrev call : Outcome
-    call = alignedOf template input w h cfg k m
+    -- the answer, and that its number tells whether the checks were passed
+    pub call-ends : let a = alignedOf template input w h cfg k m .answer in T (endsIn 1 10 a) × (clears (numberOf a) ≡ eqb number 0)
+    unfolding alignedOf toldOf pick
+    call-ends =
+        choose (eqb number 0)
+        (λ yes. rw yes (late _ (run-ends _ _ .1)))
+        (λ no. rw no (early number (check-ends _ _ w h cfg k m) no))
 
-    abbrev Ended : Answer → Type 0
-    Ended a = T (endsIn 1 10 a) × (clears (numberOf a) ≡ eqb number 0)
-
-    -- THE THEOREM: a pose of four finite numbers or a refusal of the table, whose number says whether the lent memory was cleared
-    pub call-ends : Ended (call .answer)
-    unfolding alignedOf numberOf
-    call-ends = by (eqb number 0) refl
-      where
-        by : (b : Bool) → eqb number 0 ≡ b → Ended (call .answer)
-        by true e =
-            subst (λ (o : Outcome). T (endsIn 1 10 (o .answer)) × (clears (numberOf (o .answer)) ≡ eqb number 0)) (sym (pick-true _ _ _ e))
-            (let l = late _ (run-ends _ _ .1) in (l .0, l .1 ∙ sym e))
-        by false e =
-            subst (λ (o : Outcome). T (endsIn 1 10 (o .answer)) × (clears (numberOf (o .answer)) ≡ eqb number 0)) (sym (pick-false _ _ _ e))
-            (let l = early number (check-ends _ _ w h cfg k m) e in (l .0, l .1 ∙ sym e))
+  -- THE THEOREM, of the definitions that the alignment's contract cites
+  pub memory-ends : (work : List Float) (marks : List ℕ) → (let n = sizeOf cfg w h in let c = number (length work) (length marks) in
+      CallEnded n (cfg .«max_iter») (alignedOf template input w h cfg (length work) (length marks)) work (workAfter c n work) marks (marksAfter c n marks))
+  unfolding alignedOf workAfter marksAfter
+  memory-ends work marks =
+      let ends = call-ends (length work) (length marks) in
+      record {
+        answer = ends .0;
+        few = pick-where (λ (o : Outcome). o .passes ≤ cfg .«max_iter») _ _ _ (λ e. run-ends _ _ .0) (omega arith);
+        no-pass = λ c. ap (λ (o : Outcome). o .passes) (pick-false _ _ _ (sym (ends .1) ∙ c));
+        cleared = λ c.
+            let yes = sym (ends .1) ∙ c in
+            let p = past _ _ w h cfg (length work) (length marks) (eqb-true _ 0 yes) in
+            ((p .work-fits, pick-true _ _ _ yes ∙ front-is work _ 0f), (p .marks-fit, pick-true _ _ _ yes ∙ front-is marks _ 0));
+        stays = λ c. let no = sym (ends .1) ∙ c in (pick-false _ _ _ no, pick-false _ _ _ no);
+      }

@@ -11,15 +11,15 @@ use Rattle.settings.specs.declared.EccConfig.{EccConfig}
 use Rattle.prepare.specs.Prepared.{preparedOf}
 use Rattle.checks.specs.Checks.{sizeOf}
 use Rattle.marks.specs.Marks.{on}
-use Rattle.pose.specs.Pose.{mapOf}
+use Rattle.pose.specs.Pose.{affineFromThetaTxTy}
 use Rattle.places.specs.Point.{marksOf}
-use Rattle.runs.specs.Runs.{Run, going, settled, refused, after}
+use Rattle.runs.specs.Runs.{Run, going, stopped, refused, after}
 use Rattle.alignment.specs.Aligned.{passIn}
 
 -- the next pass of a run marks the pixel i; a run that has ended has no next pass
 unfoldable pub marksNext : ℕ → ℕ → Run → ℕ → Bool
-marksNext tw th (going k p rho last) i = on (marksOf (mapOf p) tw th) i
-marksNext tw th (settled k p rho) i = false
+marksNext tw th (going k p rho last) i = on (marksOf (affineFromThetaTxTy p) tw th) i
+marksNext tw th (stopped k p rho) i = false
 marksNext tw th (refused k n) i = false
 
 -- the run of a call after k of its passes

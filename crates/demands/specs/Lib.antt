@@ -1,2 +1,4 @@
 pub mod Finite
 pub mod Agree
+pub mod Calls
+pub mod Demands

@@ -17,36 +17,36 @@ use Rattle.floats.specs.Bound.{AtLeast}
 use Rattle.floats.proofs.Within.{Signed, round-signed, round-neg, rep-down}
 use Rattle.floats.proofs.Exactly.{mul-pow-exact}
 use Rattle.floats.proofs.Signs.{round-at-least}
-use Rattle.driver.specs.Pins.{heldOf, nearestHeld, pinOf}
+use Rattle.driver.specs.Pins.{cappedOf, nearestCapped, pinOf}
 
 -- ---- fractions
 
 -- a / c and n / d are the same
-nearest-same : (s : Bool) (a c n d : ℕ) → 0 < c → 0 < d → a * d ≡ n * c → nearestHeld s a c ≡ nearestHeld s n d
-unfolding nearestHeld
-nearest-same s a c n d C D h = ap (heldOf s) (div-same (2 * a + c) (2 * c) (2 * n + d) (2 * d) (omega arith) (omega arith) (doubled h))
+nearest-same : (s : Bool) (a c n d : ℕ) → 0 < c → 0 < d → a * d ≡ n * c → nearestCapped s a c ≡ nearestCapped s n d
+unfolding nearestCapped
+nearest-same s a c n d C D h = ap (cappedOf s) (div-same (2 * a + c) (2 * c) (2 * n + d) (2 * d) (omega arith) (omega arith) (doubled h))
   where
     doubled : a * d ≡ n * c → (2 * a + c) * (2 * d) ≡ (2 * n + d) * (2 * c)
     doubled h = omega (arith, add-mul (2 * a) c (2 * d), add-mul (2 * n) d (2 * c), mul-mul-mul-comm 2 a 2 d, mul-mul-mul-comm 2 n 2 c, mul-comm c (2 * d), mul-comm d (2 * c))
 
 -- from 32768 on
-nearest-far : (s : Bool) (n d : ℕ) → 0 < d → 32768 * d ≤ n → nearestHeld s n d ≡ nearestHeld s 32768 1
-unfolding nearestHeld
+nearest-far : (s : Bool) (n d : ℕ) → 0 < d → 32768 * d ≤ n → nearestCapped s n d ≡ nearestCapped s 32768 1
+unfolding nearestCapped
 nearest-far s n d D h = hold s ((2 * n + d) / (2 * d)) (le-div-iff-mul-le (omega arith) .1 (omega arith))
   where
-    hold : (s : Bool) (q : ℕ) → 32768 ≤ q → heldOf s q ≡ heldOf s 32768
+    hold : (s : Bool) (q : ℕ) → 32768 ≤ q → cappedOf s q ≡ cappedOf s 32768
     hold true q h = ap (λ (n : ℕ). negℤ (pos n)) (min-eq-right h)
     hold false q h = ap pos (min-eq-right {n = 32767} {m = q} (omega arith))
 
 -- ---- values
 
-value-pin : (y : Float) (s : Bool) (n d : ℕ) → 0 < d → HasValue y s n d → pinOf 1 y ≡ nearestHeld s n d
+value-pin : (y : Float) (s : Bool) (n d : ℕ) → 0 < d → HasValue y s n d → pinOf 1 y ≡ nearestCapped s n d
 unfolding pinOf
 value-pin nan s n d D h = absurd h
 value-pin (inf t) s n d D h = absurd h
 value-pin (fin t m e) s n d D h = rw (h .0, one-mul (m * up e)) (nearest-same s (m * up e) (down e) n d (down-pos e) D (h .1))
 
-far-pin : (y : Float) (s : Bool) → Signed s y → (T (finite y) → AtLeast y 32768 1) → pinOf 1 y ≡ nearestHeld s 32768 1
+far-pin : (y : Float) (s : Bool) → Signed s y → (T (finite y) → AtLeast y 32768 1) → pinOf 1 y ≡ nearestCapped s 32768 1
 unfolding pinOf
 far-pin nan s g h = absurd g
 far-pin (inf t) s g h = rw g
@@ -90,7 +90,7 @@ pub pin-times : (x : Float) (t : ℕ) → T (fits binary32 x) → T (finite x) �
 unfolding pinOf
 pin-times nan t p f = absurd f
 pin-times (inf s) t p f = absurd f
-pin-times (fin s m e) t p f = go (ltb n (32768 * d)) refl ∙ ap (λ (z : ℕ). nearestHeld s z d) (mul-comm (m * up e) (2 ^ t))
+pin-times (fin s m e) t p f = go (ltb n (32768 * d)) refl ∙ ap (λ (z : ℕ). nearestCapped s z d) (mul-comm (m * up e) (2 ^ t))
   where
     d : ℕ
     d = down e
@@ -101,7 +101,7 @@ pin-times (fin s m e) t p f = go (ltb n (32768 * d)) refl ∙ ap (λ (z : ℕ). 
     y : Float
     y = mul binary32 (fin s m e) (fin false 1 (pos t))
 
-    go : (b : Bool) → ltb n (32768 * d) ≡ b → pinOf 1 y ≡ nearestHeld s n d
+    go : (b : Bool) → ltb n (32768 * d) ≡ b → pinOf 1 y ≡ nearestCapped s n d
     go true h = value-pin y s n d (down-pos e) (mul-pow-exact binary32 s m e t p (lt-of-lt-of-le (ltb-true n (32768 * d) h) (mul-le-mul-right d (lit≤ tt))))
     go false h =
         let far : 32768 * d ≤ n = ltb-false n (32768 * d) h in

@@ -17,7 +17,7 @@ use borrow.Author.Tests.{ltb-true, ltb-false}
 use Rattle.floats.proofs.Tests.{few-digits}
 use Rattle.numbers.specs.Numbers.{nearestOf, roundOf}
 use Rattle.numbers.proofs.Whole.{round-kept}
-use Rattle.driver.specs.Pins.{heldOf, nearestHeld, pinOf}
+use Rattle.driver.specs.Pins.{cappedOf, nearestCapped, pinOf}
 
 -- v is the whole number q with the sign s, or an infinity of that sign, with q past the range
 abbrev pub Whole : Float → Bool → ℕ → Type 0
@@ -36,20 +36,20 @@ pub record Rounded (x v : Float) : Type 0 where
   pub s : Bool
   pub q : ℕ
   pub whole : Whole v s q
-  pub is : heldOf s q ≡ pinOf 1 x
+  pub is : cappedOf s q ≡ pinOf 1 x
 
 half-more : (n : ℕ) → (2 * n + 1) / 2 ≡ n
 half-more n = omega arith
 
 pub rounded : (x : Float) → T (fits binary32 x) → T (not (isNan x)) → Rounded x (roundOf x)
-unfolding pinOf nearestHeld roundOf nearestOf isNan
+unfolding pinOf nearestCapped roundOf nearestOf isNan
 rounded nan f h = absurd h
 rounded (inf t) f h = record { s = t; q = 32768; whole = (refl, omega arith); is = refl }
 rounded (fin t m (pos k)) f h = record {
   s = t;
   q = m * 2 ^ k;
   whole = subst (λ (v : Float). Whole v t (m * 2 ^ k)) (round-kept (fin t m (pos k)) f (mod-one (m * 2 ^ k))) (refl, sym (mul-one (m * 2 ^ k)));
-  is = ap (heldOf t) (sym (half-more (m * 2 ^ k)) ∙ ap (λ (n : ℕ). (2 * n + 1) / 2) (sym (one-mul (m * 2 ^ k))));
+  is = ap (cappedOf t) (sym (half-more (m * 2 ^ k)) ∙ ap (λ (n : ℕ). (2 * n + 1) / 2) (sym (one-mul (m * 2 ^ k))));
 }
 rounded (fin t m (negsuc k)) f h =
     let d = 2 ^ suc k in
@@ -59,38 +59,38 @@ rounded (fin t m (negsuc k)) f h =
       s = t;
       q = q;
       whole = value-whole (round binary32 t q 1) t q (round-whole binary32 t q few);
-      is = ap (λ (n : ℕ). heldOf t ((2 * n + d) / (2 * d))) (sym (one-mul (m * 1)));
+      is = ap (λ (n : ℕ). cappedOf t ((2 * n + d) / (2 * d))) (sym (one-mul (m * 1)));
     }
 
 -- ---- the two tests
 
-held-high : (q : ℕ) → 32767 ≤ q → pos 32767 ≡ heldOf false q
-held-high q h = ap pos (sym (min-eq-right h))
+capped-high : (q : ℕ) → 32767 ≤ q → pos 32767 ≡ cappedOf false q
+capped-high q h = ap pos (sym (min-eq-right h))
 
-held-low : (q : ℕ) → 32768 ≤ q → negsuc 32767 ≡ heldOf true q
-held-low q h = ap (λ (n : ℕ). negℤ (pos n)) (sym (min-eq-right h))
+capped-low : (q : ℕ) → 32768 ≤ q → negsuc 32767 ≡ cappedOf true q
+capped-low q h = ap (λ (n : ℕ). negℤ (pos n)) (sym (min-eq-right h))
 
 -- above 32767
-pub above : (v : Float) (s : Bool) (q : ℕ) → Whole v s q → lt (fin false 32767 (pos 0)) v ≡ true → pos 32767 ≡ heldOf s q
+pub above : (v : Float) (s : Bool) (q : ℕ) → Whole v s q → lt (fin false 32767 (pos 0)) v ≡ true → pos 32767 ≡ cappedOf s q
 unfolding lt
 above nan s q w h = absurd w
 above (inf true) s q w h = absurd (true≢false (sym h))
-above (inf false) s q w h = rw (← w .0) (held-high q (omega (arith, w .1)))
+above (inf false) s q w h = rw (← w .0) (capped-high q (omega (arith, w .1)))
 above (fin true m e) s q w h = absurd (true≢false (sym h))
 above (fin false m e) s q w h =
     let more : 32767 < q = lt-of-mul-lt-mul-right (down e) (omega (arith, ltb-true (32767 * 1 * down e) (m * up e * 1) h, w .1)) in
-    rw (← w .0) (held-high q (omega arith))
+    rw (← w .0) (capped-high q (omega arith))
 
 -- below -32768
-pub below : (v : Float) (s : Bool) (q : ℕ) → Whole v s q → lt v (fin true 1 (pos 15)) ≡ true → negsuc 32767 ≡ heldOf s q
+pub below : (v : Float) (s : Bool) (q : ℕ) → Whole v s q → lt v (fin true 1 (pos 15)) ≡ true → negsuc 32767 ≡ cappedOf s q
 unfolding lt
 below nan s q w h = absurd w
 below (inf false) s q w h = absurd (true≢false (sym h))
-below (inf true) s q w h = rw (← w .0) (held-low q (w .1))
+below (inf true) s q w h = rw (← w .0) (capped-low q (w .1))
 below (fin false m e) s q w h = absurd (true≢false (sym h))
 below (fin true m e) s q w h =
     let more : 32768 < q = lt-of-mul-lt-mul-right (down e) (omega (arith, ltb-true (1 * 2 ^ 15 * down e) (m * up e * 1) h, w .1)) in
-    rw (← w .0) (held-low q (omega arith))
+    rw (← w .0) (capped-low q (omega arith))
 
 or-true : (a b : Bool) → T a → T (a || b)
 or-true true b t = tt
@@ -100,7 +100,7 @@ or-true false b t = absurd t
 pub record Inside (v : Float) (s : Bool) (q : ℕ) : Type 0 where
   pub low : T (le (fin true 1 (pos 63)) v)
   pub high : T (lt v (fin false 1 (pos 63)))
-  pub is : toSigned 63 v ≡ heldOf s q
+  pub is : toSigned 63 v ≡ cappedOf s q
 
 pub inside : (v : Float) (s : Bool) (q : ℕ) → Whole v s q → lt (fin false 32767 (pos 0)) v ≡ false → lt v (fin true 1 (pos 15)) ≡ false → Inside v s q
 unfolding lt le eq toSigned
@@ -131,9 +131,9 @@ inside (fin true m e) s q w h k =
     }
 
 -- 16 bits hold it, and so do 64
-pub held-mag : (s : Bool) (q : ℕ) → mag (heldOf s q) < 32768
-held-mag false q = omega arith
-held-mag true q = negative (min q 32768) (omega arith)
+pub capped-mag : (s : Bool) (q : ℕ) → mag (cappedOf s q) < 32768
+capped-mag false q = omega arith
+capped-mag true q = negative (min q 32768) (omega arith)
   where
     negative : (n : ℕ) → n ≤ 32768 → mag (negℤ (pos n)) < 32768
     negative zero h = omega arith

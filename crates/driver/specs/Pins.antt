@@ -7,25 +7,25 @@ use lib.IntN.{ℤ, pos, negℤ}
 use lib.Ieee.{Float, nan, inf, fin, up, down}
 use lib.Ieee.Scale.{finite}
 use Rattle.lists.specs.Marked.{pick}
+use Rattle.pose.specs.Pose.{toldOf}
 use Rattle.pose.specs.declared.Answer.{Answer}
-use Rattle.pose.specs.declared.Answer.the-variants.{Posed, Refused}
 use Rattle.driver.specs.declared.Pins.{Pins}
 
 -- a size with its sign, held to -32768..32767
-abbrev pub heldOf : Bool → ℕ → ℤ
-heldOf true n = negℤ (pos (min n 32768))
-heldOf false n = pos (min n 32767)
+abbrev pub cappedOf : Bool → ℕ → ℤ
+cappedOf true n = negℤ (pos (min n 32768))
+cappedOf false n = pos (min n 32767)
 
 -- n / d with its sign, to the nearest whole number, half away from zero, held
-unfoldable pub nearestHeld : Bool → ℕ → ℕ → ℤ
-nearestHeld s n d = heldOf s ((2 * n + d) / (2 * d))
+unfoldable pub nearestCapped : Bool → ℕ → ℕ → ℤ
+nearestCapped s n d = cappedOf s ((2 * n + d) / (2 * d))
 
 -- k times a value, to the nearest whole number, half away from zero, held; an infinity is held too
 unfoldable pub pinOf : ℕ → Float → ℤ
-unfolding nearestHeld
+unfolding nearestCapped
 pinOf k nan = pos 0
-pinOf k (inf s) = nearestHeld s 32768 1
-pinOf k (fin s m e) = nearestHeld s (k * (m * up e)) (down e)
+pinOf k (inf s) = nearestCapped s 32768 1
+pinOf k (fin s m e) = nearestCapped s (k * (m * up e)) (down e)
 
 -- 0, 0, 0
 abbrev pub stillOf : Pins
@@ -36,8 +36,7 @@ unfoldable pub posedOf : Float → Float → Float → Pins
 unfolding pinOf
 posedOf theta tx ty = pick (finite theta && finite tx && finite ty) (record { dx = pinOf 256 tx; dy = pinOf 256 ty; turn = pinOf 8192 theta }) stillOf
 
--- of an answer: 0, 0, 0 for a refusal
+-- of an answer, by its values: those of a refusal are zeros, so 0, 0, 0
 unfoldable pub pinsOf : Answer → Pins
 unfolding posedOf
-pinsOf (Refused k) = stillOf
-pinsOf (Posed theta tx ty rho) = posedOf theta tx ty
+pinsOf a = let t = toldOf a in posedOf (t .theta) (t .tx) (t .ty)

@@ -15,7 +15,7 @@ pub struct Pins {
 }
 
 // x to the nearest whole number, half away from zero, held to -32768..32767.
-fn held(x: f32) -> i16
+fn capped(x: f32) -> i16
     requires { ⌜ T (not (isNan x)) ⌝ }
     ensures { λ r. ⌜ r ≡ pinOf 1 x ⌝ }
 {
@@ -53,9 +53,9 @@ fn posed_pins(theta: f32, tx: f32, ty: f32) -> Pins
         return still();
     }
     Pins {
-        dx: held(tx * 256.0),
-        dy: held(ty * 256.0),
-        turn: held(theta * 8192.0),
+        dx: capped(tx * 256.0),
+        dy: capped(ty * 256.0),
+        turn: capped(theta * 8192.0),
     }
 }
 

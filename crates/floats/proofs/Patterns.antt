@@ -15,6 +15,8 @@ use lib.Ieee.Compare.{nan-differs}
 use lib.Ieee.Exact.{HasValue, odd-sign}
 use lib.Ieee.Nearest.{div-same}
 use lib.Ieee.Scale.{finite}
+use Rattle.lists.specs.Marked.{pick}
+use Rattle.lists.proofs.Cases.{pick-true, pick-false}
 use Rattle.floats.specs.Bound.{Within}
 use Rattle.floats.specs.Units.{unitsOf, unitsAt}
 use Rattle.floats.proofs.Within.{within-finite}
@@ -30,10 +32,10 @@ lt-or-le a b = go (ltb a b) (ltb→lt a b) (nltb→le a b)
     go false l g = inr (g tt)
 
 pub units-small : (b : ℕ) → b < 8388608 → unitsAt b ≡ b
-units-small b h = ap (λ (t : Bool). cond t b ((8388608 + b % 8388608) * 2 ^ (b / 8388608 - 1))) (is-true (ltb b 8388608) (lt→ltb b 8388608 h))
+units-small b h = pick-true (ltb b 8388608) _ _ (is-true (ltb b 8388608) (lt→ltb b 8388608 h))
 
 pub units-normal : (b : ℕ) → 8388608 ≤ b → unitsAt b ≡ (8388608 + b % 8388608) * 2 ^ (b / 8388608 - 1)
-units-normal b h = ap (λ (t : Bool). cond t b ((8388608 + b % 8388608) * 2 ^ (b / 8388608 - 1))) (is-false (ltb b 8388608) (le→nltb b 8388608 h))
+units-normal b h = pick-false (ltb b 8388608) _ _ (is-false (ltb b 8388608) (le→nltb b 8388608 h))
 
 -- a size in units is the value's
 pub value-units : (x : Float) (s : Bool) (u : ℕ) → HasValue x s u (2 ^ 149) → unitsOf x ≡ u
@@ -73,9 +75,10 @@ field b h = omega arith
 
 -- the value of the fields of a magnitude r below the infinity's
 pub fields-value : (s : Bool) (r : ℕ) → r < 2139095040 → HasValue (ofFields binary32 s (r / 8388608) (r % 8388608)) s (unitsAt r) (2 ^ 149)
+unfolding pick
 fields-value s r h = go (ltb r 8388608) (ltb→lt r 8388608) (nltb→le r 8388608)
   where
-    go : (c : Bool) → (T c → r < 8388608) → (T (not c) → 8388608 ≤ r) → HasValue (ofFields binary32 s (r / 8388608) (r % 8388608)) s (cond c r ((8388608 + r % 8388608) * 2 ^ (r / 8388608 - 1))) (2 ^ 149)
+    go : (c : Bool) → (T c → r < 8388608) → (T (not c) → 8388608 ≤ r) → HasValue (ofFields binary32 s (r / 8388608) (r % 8388608)) s (pick c r ((8388608 + r % 8388608) * 2 ^ (r / 8388608 - 1))) (2 ^ 149)
     go true k n =
         let e : ofFields binary32 s (r / 8388608) (r % 8388608) ≡ odd 24 s r 0 149 =
         ap (λ (x : ℕ). ofFields binary32 s x (r % 8388608)) (none r (k tt)) ∙ ap (λ (t : ℕ). ofFields binary32 s 0 t) (mod-eq-of-lt (k tt)) ∙ fields-zero s r in

@@ -2,27 +2,18 @@
 use Prim.Native.Nat.{ℕ, _+_, _*_, _%_, _≤_}
 use mathlib.Core.Path.{_≡_, ap, _∙_}
 use mathlib.Core.List.{List}
-use native.Mathlib.Nat.{mul-comm}
 use native.Mathlib.Omega.{arith}
 use lib.Dec.{lit≤}
 use lib.ListN.{length}
 use lib.Ieee.{Float}
 use Rattle.lists.specs.Lists.{image, setImage}
-use Rattle.lists.proofs.Grow.{length-grid}
 use Rattle.lists.proofs.Fill.{row-in}
 use Rattle.lists.proofs.Images.{image-set, image-set-other, length-setImage, drop-set}
 use Rattle.gradients.specs.Gradients.{gradientX, gradientY}
+use Rattle.gradients.proofs.Sizes.{length-gradient-x, length-gradient-y}
 use Rattle.prepare.specs.Prepared.{preparedOf, preparedIn}
 use Rattle.prepare.proofs.Work.{length-prepared-in, prepared-other, prepared-rest, prepared-image}
 use Rattle.frames.specs.Ready.{Ready}
-
-pub length-gradient-x : (w h : ℕ) (src : List Float) → length (gradientX w h src) ≡ w * h
-unfolding gradientX
-length-gradient-x w h src = length-grid w h _ ∙ mul-comm h w
-
-pub length-gradient-y : (w h : ℕ) (src : List Float) → length (gradientY w h src) ≡ w * h
-unfolding gradientY
-length-gradient-y w h src = length-grid w h _ ∙ mul-comm h w
 
 module _ (template input : List ℕ) (w h tw th ksize : ℕ) (xs : List Float) where
   abbrev n : ℕ

@@ -4,12 +4,13 @@ ghost use mathlib.Core.Path.{_≡_};
 ghost use Prim.Native.Nat.{_*_, _%_, _≤_};
 ghost use lib.ListN.{length};
 ghost use Rattle.lists.specs.Lists.{image, setImage};
+ghost use Rattle.lists.specs.Premises.{InRange, OddFilter};
 ghost use Rattle.gradients.specs.Gradients.{gradientX, gradientY};
 ghost use Rattle.frames.specs.Ready.{Ready};
 
 // The gradient in x of image 2, in image 3.
 fn add_gradient_x(work: &mut [f32], w: usize, h: usize)
-    requires { ⌜ (1 ≤ w) × (w ≤ 4096) × (1 ≤ h) × (h ≤ 4096) × (12 * (w * h) ≤ length (now work)) ⌝ }
+    requires { ⌜ InRange w h × (12 * (w * h) ≤ length (now work)) ⌝ }
     ensures { λ _. ⌜ now (work .exit) ≡ setImage (w * h) 3 (gradientX w h (image (w * h) 2 (now (work .entry)))) (now (work .entry)) ⌝ }
 {
     let n = w * h;
@@ -18,7 +19,7 @@ fn add_gradient_x(work: &mut [f32], w: usize, h: usize)
 
 // The gradient in y of image 2, in image 4.
 fn add_gradient_y(work: &mut [f32], w: usize, h: usize)
-    requires { ⌜ (1 ≤ w) × (w ≤ 4096) × (1 ≤ h) × (h ≤ 4096) × (12 * (w * h) ≤ length (now work)) ⌝ }
+    requires { ⌜ InRange w h × (12 * (w * h) ≤ length (now work)) ⌝ }
     ensures { λ _. ⌜ now (work .exit) ≡ setImage (w * h) 4 (gradientY w h (image (w * h) 2 (now (work .entry)))) (now (work .entry)) ⌝ }
 {
     let n = w * h;
@@ -36,7 +37,10 @@ pub fn make_ready(
     th: usize,
     ksize: usize,
 )
-    requires { ⌜ (1 ≤ w) × (w ≤ 4096) × (1 ≤ h) × (h ≤ 4096) × (1 ≤ tw) × (tw ≤ 4096) × (1 ≤ th) × (th ≤ 4096) × (length (now template) ≡ w * h) × (length (now input) ≡ w * h) × (12 * (tw * th) ≤ length (now work)) × (ksize % 2 ≡ 1) × (ksize ≤ 31) ⌝ }
+    requires { ⌜
+        InRange w h × InRange tw th × (length (now template) ≡ w * h) × (length (now input) ≡ w * h)
+        × (12 * (tw * th) ≤ length (now work)) × OddFilter ksize
+        ⌝ }
     ensures { λ _. ⌜ Ready (now (template .entry)) (now (input .entry)) w h tw th ksize (now (work .entry)) (now (work .exit)) ⌝ }
 {
     prepare::prepare(work, 6, template, w, h, tw, th, ksize);

@@ -10,7 +10,7 @@ use Rattle.lists.proofs.Fill.{row-in}
 use Rattle.floats.specs.Bound.{Within}
 use Rattle.floats.specs.F32.{_⊖_, _⊗_, half}
 use Rattle.floats.proofs.Within.{sub-within, mul-within, rep-up}
-use Rattle.gradients.specs.Gradients.{prevOf, nextOf, gradientX, gradientY}
+use Rattle.gradients.specs.Gradients.{beforeOf, afterOf, gradientX, gradientY}
 use Rattle.lists.proofs.Grow.{grid-all}
 
 half-is : Within half 1 2
@@ -30,11 +30,11 @@ module _ (w h k : ℕ) (src : List Float) (small : k ≤ 100) (all : (i : ℕ) �
   unfolding gradientX
   gradient-x-within = grid-all (λ v. Within v (2 ^ k) 1) w h _ nan λ x y p q.
       let r = row-in w y h q in
-      half-within k small _ _ (all (y * w + nextOf w x) (omega arith)) (all (y * w + prevOf x) (omega arith))
+      half-within k small _ _ (all (y * w + afterOf w x) (omega arith)) (all (y * w + beforeOf x) (omega arith))
 
   pub gradient-y-within : (i : ℕ) → i < w * h → Within (getD (gradientY w h src) i nan) (2 ^ k) 1
   unfolding gradientY
   gradient-y-within = grid-all (λ v. Within v (2 ^ k) 1) w h _ nan λ x y p q.
-      let d = row-in w (nextOf h y) h (omega arith) in
-      let u = row-in w (prevOf y) h (omega arith) in
-      half-within k small _ _ (all (nextOf h y * w + x) (omega arith)) (all (prevOf y * w + x) (omega arith))
+      let d = row-in w (afterOf h y) h (omega arith) in
+      let u = row-in w (beforeOf y) h (omega arith) in
+      half-within k small _ _ (all (afterOf h y * w + x) (omega arith)) (all (beforeOf y * w + x) (omega arith))

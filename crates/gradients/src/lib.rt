@@ -8,13 +8,17 @@ ghost use Prim.Native.Nat.{_+_, _*_, _≤_, _<_};
 ghost use lib.Ieee.{nan};
 ghost use lib.ListN.{length, getD};
 ghost use Rattle.lists.specs.Lists.{tab, put, image, setImage};
+ghost use Rattle.lists.specs.Premises.{InRange};
 ghost use Rattle.floats.specs.F32.{_⊖_, _⊗_, half};
-ghost use Rattle.gradients.specs.Gradients.{prevOf, nextOf, gradientX, gradientY};
+ghost use Rattle.gradients.specs.Gradients.{beforeOf, afterOf, gradientX, gradientY};
 
 // From `to` on m numbers: half of what stands from `next` on less what stands from `prev` on.
 fn half_differences(part: &mut [f32], to: usize, next: usize, prev: usize, m: usize)
     requires { ⌜ (next + m ≤ to) × (prev + m ≤ to) × (to + m ≤ length (now part)) ⌝ }
-    ensures { λ _. ⌜ now (part .exit) ≡ put (now (part .entry)) to (tab m (λ k. half ⊗ (getD (now (part .entry)) (next + k) nan ⊖ getD (now (part .entry)) (prev + k) nan))) ⌝ }
+    ensures { λ _. ⌜
+        now (part .exit) ≡ put (now (part .entry)) to
+        (tab m (λ k. half ⊗ (getD (now (part .entry)) (next + k) nan ⊖ getD (now (part .entry)) (prev + k) nan)))
+        ⌝ }
 {
     let mut k = 0;
     while k < m {
@@ -26,7 +30,10 @@ fn half_differences(part: &mut [f32], to: usize, next: usize, prev: usize, m: us
 // The row of w pixels from `at` on, within the first n: its gradient, from n + `at` on.
 fn gradient_x_row(part: &mut [f32], at: usize, n: usize, w: usize)
     requires { ⌜ (1 ≤ w) × (at + w ≤ n) × (n + at + w ≤ length (now part)) ⌝ }
-    ensures { λ _. ⌜ now (part .exit) ≡ put (now (part .entry)) (n + at) (tab w (λ x. half ⊗ (getD (now (part .entry)) (at + nextOf w x) nan ⊖ getD (now (part .entry)) (at + prevOf x) nan))) ⌝ }
+    ensures { λ _. ⌜
+        now (part .exit) ≡ put (now (part .entry)) (n + at)
+        (tab w (λ x. half ⊗ (getD (now (part .entry)) (at + afterOf w x) nan ⊖ getD (now (part .entry)) (at + beforeOf x) nan)))
+        ⌝ }
 {
     let to = n + at;
     if w < 2 {
@@ -40,7 +47,7 @@ fn gradient_x_row(part: &mut [f32], at: usize, n: usize, w: usize)
 }
 
 pub fn gradient_x(part: &mut [f32], w: usize, h: usize)
-    requires { ⌜ (1 ≤ w) × (w ≤ 4096) × (1 ≤ h) × (h ≤ 4096) × (3 * (w * h) ≤ length (now part)) ⌝ }
+    requires { ⌜ InRange w h × (3 * (w * h) ≤ length (now part)) ⌝ }
     ensures { λ _. ⌜ now (part .exit) ≡ setImage (w * h) 1 (gradientX w h (image (w * h) 0 (now (part .entry)))) (now (part .entry)) ⌝ }
 {
     let n = w * h;
@@ -53,7 +60,7 @@ pub fn gradient_x(part: &mut [f32], w: usize, h: usize)
 
 // The row above y.
 fn row_above(y: usize) -> usize
-    ensures { λ r. ⌜ r ≡ prevOf y ⌝ }
+    ensures { λ r. ⌜ r ≡ beforeOf y ⌝ }
 {
     if y == 0 { y } else { y - 1 }
 }
@@ -61,13 +68,13 @@ fn row_above(y: usize) -> usize
 // The row below y, of h.
 fn row_below(y: usize, h: usize) -> usize
     requires { ⌜ y < h ⌝ }
-    ensures { λ r. ⌜ r ≡ nextOf h y ⌝ }
+    ensures { λ r. ⌜ r ≡ afterOf h y ⌝ }
 {
     if y + 1 >= h { y } else { y + 1 }
 }
 
 pub fn gradient_y(part: &mut [f32], w: usize, h: usize)
-    requires { ⌜ (1 ≤ w) × (w ≤ 4096) × (1 ≤ h) × (h ≤ 4096) × (3 * (w * h) ≤ length (now part)) ⌝ }
+    requires { ⌜ InRange w h × (3 * (w * h) ≤ length (now part)) ⌝ }
     ensures { λ _. ⌜ now (part .exit) ≡ setImage (w * h) 2 (gradientY w h (image (w * h) 0 (now (part .entry)))) (now (part .entry)) ⌝ }
 {
     let n = w * h;

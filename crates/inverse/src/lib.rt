@@ -1,7 +1,7 @@
 // The inverse of a 3x3 matrix of f32, by document 01's rule: none where the determinant is a zero of either sign. A determinant that is
 // infinite or a NaN counts as there, and so do the entries that come of it.
 ghost use mathlib.Core.Path.{_≡_};
-ghost use Rattle.inverse.specs.Inverse.{overOf, inverseOf, timesOf, dotOf};
+ghost use Rattle.inverse.specs.Inverse.{rowsOverOf, inverseOf, timesOf, dotOf};
 
 pub struct Vector3(pub f32, pub f32, pub f32);
 
@@ -24,7 +24,7 @@ pub enum Inverse {
 
 // The rows of the inverse, each entry over the determinant d.
 fn over(h: Matrix3, p: f32, q: f32, r: f32, d: f32) -> Matrix3
-    ensures { λ m. ⌜ m ≡ overOf h p q r d ⌝ }
+    ensures { λ m. ⌜ m ≡ rowsOverOf h p q r d ⌝ }
 {
     Matrix3 {
         m00: p / d,

@@ -7,6 +7,7 @@ ghost use Prim.Native.Nat.{_%_, _≤_, _<_};
 ghost use lib.ListN.{length, getD};
 ghost use lib.Ieee.{nan};
 ghost use Rattle.lists.specs.Lists.{tab, put};
+ghost use Rattle.lists.specs.Premises.{OddFilter};
 ghost use Rattle.floats.specs.F32.{_⊗_, _⊘_, 2f};
 ghost use Rattle.floats.specs.Sums.{sumTo};
 ghost use Rattle.kernel.specs.Kernel.{sigmaOf, offOf, weightOf, kernelOf};
@@ -31,7 +32,7 @@ fn off(ksize: usize, i: usize) -> usize
 
 // The weight of the place i, before it is divided.
 fn weight(ksize: usize, d: f32, i: usize) -> f32
-    requires { ⌜ (3 ≤ ksize) × (ksize ≤ 31) × (ksize % 2 ≡ 1) × (i < ksize) × (d ≡ 2f ⊗ sigmaOf ksize ⊗ sigmaOf ksize) ⌝ }
+    requires { ⌜ (3 ≤ ksize) × OddFilter ksize × (i < ksize) × (d ≡ 2f ⊗ sigmaOf ksize ⊗ sigmaOf ksize) ⌝ }
     ensures { λ v. ⌜ v ≡ weightOf ksize i ⌝ }
 {
     let x = off(ksize, i);
@@ -40,7 +41,7 @@ fn weight(ksize: usize, d: f32, i: usize) -> f32
 
 // The front of `k` becomes the weights, before they are divided; the answer is their sum.
 fn weights(ksize: usize, d: f32, k: &mut [f32]) -> f32
-    requires { ⌜ (3 ≤ ksize) × (ksize ≤ 31) × (ksize % 2 ≡ 1) × (d ≡ 2f ⊗ sigmaOf ksize ⊗ sigmaOf ksize) × (ksize ≤ length (now k)) ⌝ }
+    requires { ⌜ (3 ≤ ksize) × OddFilter ksize × (d ≡ 2f ⊗ sigmaOf ksize ⊗ sigmaOf ksize) × (ksize ≤ length (now k)) ⌝ }
     ensures { λ sum. ⌜ (sum ≡ sumTo (weightOf ksize) ksize) × (now (k .exit) ≡ put (now (k .entry)) 0 (tab ksize (weightOf ksize))) ⌝ }
 {
     let mut sum = 0.0f32;
@@ -69,7 +70,7 @@ fn divide(n: usize, sum: f32, k: &mut [f32])
 
 // The front of `k` becomes the kernel of an odd size.
 pub fn gaussian_kernel(ksize: usize, k: &mut [f32])
-    requires { ⌜ (3 ≤ ksize) × (ksize ≤ 31) × (ksize % 2 ≡ 1) × (ksize ≤ length (now k)) ⌝ }
+    requires { ⌜ (3 ≤ ksize) × OddFilter ksize × (ksize ≤ length (now k)) ⌝ }
     ensures { λ _. ⌜ now (k .exit) ≡ put (now (k .entry)) 0 (kernelOf ksize) ⌝ }
 {
     let d = spread(ksize);

@@ -15,7 +15,7 @@ use Rattle.records.specs.declared.Record.{Record}
 use Rattle.records.specs.declared.Record.the-variants.{More, Settings, Frame, Large, Other, Broken}
 use Rattle.lists.proofs.Cases.{either}
 use Rattle.stream.specs.Stream.{firstState, passedOf, overOf, actOf, stepOf, endOf}
-use Rattle.stream.specs.Memory.{storeOf}
+use Rattle.stream.specs.Memory.{steppedStore}
 use Rattle.stream.specs.declared.Event.the-variants as event
 use Rattle.lines.specs.declared.Line.{Line}
 use Rattle.stream.specs.declared.State.{State}
@@ -23,19 +23,23 @@ use Rattle.stream.specs.declared.Step.{Step}
 use Rattle.stream.proofs.Bounded.{bounded}
 use Rattle.log.specs.Log.{Log, line, last, logOf}
 use Rattle.log.specs.Pieces.{Reads, quiet, prints, takes, ends, breaks, all, outcome}
+use Rattle.log.specs.Whole.{AnyPieces, EveryReading, LogIsPrinted, NothingElse}
 use Rattle.lists.proofs.Cases.{some}
 use Rattle.log.proofs.Right.{step-right, end-right}
 use Rattle.log.proofs.Store.{any-store}
 
 module _ (k m : ℕ) where
-  -- THE LAW: of any state, bytes at hand and pieces
-  pub pieces : {st : State} {store s : List ℕ} {ps : List (List ℕ)} {l : Log} → Reads k m st store s ps l → l ≡ outcome k m st store (s ++ all ps)
+  read-right : {st : State} {store s : List ℕ} {ps : List (List ℕ)} {l : Log} → Reads k m st store s ps l → l ≡ outcome k m st store (s ++ all ps)
   unfolding all
-  pieces {st} {store} {s} {ps} (quiet e r) = pieces r ∙ sym (rw e at (step-right k m st store s (all ps)))
-  pieces {st} {store} {s} {ps} (prints {x = x} e r) = ap (line x) (pieces r) ∙ sym (rw e at (step-right k m st store s (all ps)))
-  pieces {st} {store} {s} (takes {p = p} {ps = ps} e r) = pieces r ∙ ap (outcome k m st store) (append-assoc s p (all ps))
-  pieces {st} {store} {s} (ends e) = sym (end-right k m st store s e) ∙ ap (outcome k m st store) (sym (append-nil s))
-  pieces {st} {store} {s} {ps} (breaks e) = sym (rw e at (step-right k m st store s (all ps)))
+  read-right {st} {store} {s} {ps} (quiet e r) = read-right r ∙ sym (rw e at (step-right k m st store s (all ps)))
+  read-right {st} {store} {s} {ps} (prints {x = x} e r) = ap (line x) (read-right r) ∙ sym (rw e at (step-right k m st store s (all ps)))
+  read-right {st} {store} {s} (takes {p = p} {ps = ps} e r) = read-right r ∙ ap (outcome k m st store) (append-assoc s p (all ps))
+  read-right {st} {store} {s} (ends e) = sym (end-right k m st store s e) ∙ ap (outcome k m st store) (sym (append-nil s))
+  read-right {st} {store} {s} {ps} (breaks e) = sym (rw e at (step-right k m st store s (all ps)))
+
+-- THE LAW
+pub pieces : AnyPieces
+pieces k m st store s ps l r = read-right k m r
 
 -- ---- every list of pieces is read
 
@@ -67,7 +71,7 @@ module _ (k m : ℕ) (st : State) (store s : List ℕ) where
   unfolding stepOf
   moves = either Moved (eqb (st .rest) 0) _ _ (λ e. act-moves (nextOf s)) (λ e. over-moves e)
 
-abbrev pub Answers : ℕ → ℕ → State → List ℕ → List ℕ → List (List ℕ) → Type 0
+abbrev Answers : ℕ → ℕ → State → List ℕ → List ℕ → List (List ℕ) → Type 0
 Answers k m st store s ps = (l : Log) × Reads k m st store s ps l
 
 module _ (k m : ℕ) (ps : List (List ℕ)) (more : (st : State) (store s : List ℕ) → stepOf st s store k m .event ≡ event.More → Answers k m st store s ps) where
@@ -77,11 +81,11 @@ module _ (k m : ℕ) (ps : List (List ℕ)) (more : (st : State) (store s : List
   onward st store s next (stops e) = (last (endOf st (length s)), breaks e)
   onward st store s next (goes u e) =
       let r = stepOf st s store k m in
-      let a = next (r .state) (storeOf st s store) (drop (r .used) s) (omega (arith, length-drop (r .used) s, bounded st s store k m .within)) in
+      let a = next (r .state) (steppedStore st s store) (drop (r .used) s) (omega (arith, length-drop (r .used) s, bounded st s store k m .within)) in
       (a .0, quiet e (a .1))
   onward st store s next (tells u x e) =
       let r = stepOf st s store k m in
-      let a = next (r .state) (storeOf st s store) (drop (r .used) s) (omega (arith, length-drop (r .used) s, bounded st s store k m .within)) in
+      let a = next (r .state) (steppedStore st s store) (drop (r .used) s) (omega (arith, length-drop (r .used) s, bounded st s store k m .within)) in
       (line x (a .0), prints e (a .1))
 
   -- by how many bytes are at hand
@@ -89,19 +93,16 @@ module _ (k m : ℕ) (ps : List (List ℕ)) (more : (st : State) (store s : List
   stepping zero st store s h = absurd (omega arith)
   stepping (suc t) st store s h = onward st store s (λ st' store' s' l. stepping t st' store' s' (omega arith)) (moves k m st store s)
 
-pub answers : (k m : ℕ) (ps : List (List ℕ)) (st : State) (store s : List ℕ) → Answers k m st store s ps
+pub answers : EveryReading
 answers k m [] st store s = stepping k m [] (λ st' store' s' e. (last (endOf st' (length s')), ends e)) (suc (length s)) st store s (omega arith)
 answers k m (p ∷ ps) st store s =
     stepping k m (p ∷ ps) (λ st' store' s' e. let a = answers k m ps st' store' (s' ++ p) in (a .0, takes e (a .1))) (suc (length s)) st store s (omega arith)
 
--- ---- THE THEOREM, of the program: from its first state, with 12,288 floats, 1,024 marks and any store of 1,024 bytes
+-- ---- THE THEOREMS, of the program
 
-module _ (store : List ℕ) (size : length store ≡ 1024) (ps : List (List ℕ)) where
-  -- nothing else is printed
-  pub whole : (l : Log) → Reads 12288 1024 firstState store [] ps l → l ≡ logOf (all ps)
-  unfolding outcome logOf pick
-  whole l r = pieces 12288 1024 r ∙ any-store 12288 1024 defaultsOf store (tab 1024 (λ _. 0)) (size ∙ sym (length-tab 1024 (λ _. 0))) 0 (all ps)
+pub whole : NothingElse
+unfolding outcome logOf pick
+whole store size ps l r = read-right 12288 1024 r ∙ any-store 12288 1024 defaultsOf store (tab 1024 (λ _. 0)) (size ∙ sym (length-tab 1024 (λ _. 0))) 0 (all ps)
 
-  -- and this is
-  pub printed : Reads 12288 1024 firstState store [] ps (logOf (all ps))
-  printed = let a = answers 12288 1024 ps firstState store [] in subst (Reads 12288 1024 firstState store [] ps) (whole (a .0) (a .1)) (a .1)
+pub printed : LogIsPrinted
+printed store size ps = let a = answers 12288 1024 ps firstState store [] in subst (Reads 12288 1024 firstState store [] ps) (whole store size ps (a .0) (a .1)) (a .1)

@@ -19,7 +19,7 @@ use Rattle.records.proofs.Known.{Known, known}
 use Rattle.records.proofs.Longer.{grow}
 use Rattle.lines.specs.Lines.{lineOf}
 use Rattle.stream.specs.Stream.{tooLarge, passedOf, overOf, actOf, stepOf, endOf}
-use Rattle.stream.specs.Memory.{atFrame, storeBy, storeOf}
+use Rattle.stream.specs.Memory.{atFrame, storeBy, steppedStore}
 use Rattle.stream.specs.declared.End.the-variants.{Done, Cut}
 use Rattle.stream.specs.declared.Event.{Event}
 use Rattle.stream.specs.declared.Event.the-variants as event
@@ -127,8 +127,8 @@ module _ (k m : ℕ) (st : State) (store s t : List ℕ) where
       either P (st .large) _ _ (λ i. o ∙ rw i) (λ i. o ∙ rw i)))
 
   -- THE LAW of a step
-  pub step-right : Right (outcome k m st store (s ++ t)) (stepOf st s store k m) (storeOf st s store)
-  unfolding outcome stepOf storeOf pick
+  pub step-right : Right (outcome k m st store (s ++ t)) (stepOf st s store k m) (steppedStore st s store)
+  unfolding outcome stepOf steppedStore pick
   step-right = choose (eqb (st .rest) 0) (λ e. rw e (act-right (nextOf s) refl (known s) e)) (λ e. rw e (over-right e))
 
 -- ---- the end

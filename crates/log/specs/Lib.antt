@@ -1,2 +1,3 @@
 pub mod Log
 pub mod Pieces
+pub mod Whole

@@ -1,6 +1,6 @@
 -- What document 01's program prints of a whole stream, as a function of all its bytes. Definitions only.
 --
--- The log of some bytes depends on what came before them: an aligner a, a store, and f frames; and on k floats and m marks that are lent.
+-- The log of some bytes depends on what came before them: an aligner a, a store, and f frames; and on the lengths of the work and the marks that are lent.
 use Prim.Native.Nat.{ℕ, zero, suc, _+_}
 use mathlib.Core.Bool.{Bool, true, false}
 use mathlib.Core.List.{List}
@@ -35,23 +35,23 @@ past rec large n f s =
 
 -- a record at the start of s, and then what rec says of the bytes after it
 unfoldable pub from : ℕ → ℕ → Reader → EccAligner → List ℕ → ℕ → List ℕ → Record → Log
-from k m rec a store f s More = last (Cut f)
-from k m rec a store f s (Settings cfg) = rec (freshOf cfg) store f (drop 20 s)
-from k m rec a store f s (Frame w h n) =
-    let reply = estimateOf a (pixelsOf s n) w h store k m in
+from work marks rec a store f s More = last (Cut f)
+from work marks rec a store f s (Settings cfg) = rec (freshOf cfg) store f (drop 20 s)
+from work marks rec a store f s (Frame w h n) =
+    let reply = estimateOf a (pixelsOf s n) w h store work marks in
     line (lineOf f (reply .outcome)) (rec (reply .aligner) (storeAfter (pixelsOf s n) w h store) (f + 1) (drop (10 + n) s))
-from k m rec a store f s (Large n) = past (rec a store) true n f (drop 6 s)
-from k m rec a store f s (Other n) = past (rec a store) false n f (drop 6 s)
-from k m rec a store f s Broken = last (Cut f)
+from work marks rec a store f s (Large n) = past (rec a store) true n f (drop 6 s)
+from work marks rec a store f s (Other n) = past (rec a store) false n f (drop 6 s)
+from work marks rec a store f s Broken = last (Cut f)
 
 -- of t records at the most
 unfoldable pub logN : ℕ → ℕ → ℕ → Reader
-logN k m zero a store f s = last (Cut f)
-logN k m (suc t) a store f s = pick (eqb (length s) 0) (last (Done f)) (from k m (logN k m t) a store f s (nextOf s))
+logN work marks zero a store f s = last (Cut f)
+logN work marks (suc t) a store f s = pick (eqb (length s) 0) (last (Done f)) (from work marks (logN work marks t) a store f s (nextOf s))
 
 -- each record takes bytes, so there are no more records than bytes
 unfoldable pub logFrom : ℕ → ℕ → Reader
-logFrom k m a store f s = logN k m (suc (length s)) a store f s
+logFrom work marks a store f s = logN work marks (suc (length s)) a store f s
 
 -- THE LOG of a whole stream: the defaults, nothing remembered, no frame; 12,288 floats, 1,024 marks, a store of 1,024 bytes
 unfoldable pub logOf : List ℕ → Log

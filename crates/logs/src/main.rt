@@ -38,4 +38,6 @@ fn main() {
     show(b"other_cut.rec");
     show(b"other_empty.rec");
     show(b"empty.rec");
+    show(b"one_byte_last.rec");
+    show(b"many_lines.rec");
 }

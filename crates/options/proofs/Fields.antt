@@ -17,7 +17,7 @@ use Rattle.options.specs.declared.Value.the-variants.{Is, Wrong}
 use Rattle.options.specs.declared.Options.{Options}
 use Rattle.options.specs.declared.Taken.{Taken}
 use Rattle.options.specs.declared.Taken.the-variants.{Settings, Picture, Bad}
-use Rattle.options.specs.Words.{wholeOf, ratioOf, behindOf, pointOf, epsOf, onValue, withEps, withPasses, withFilter, withEdge, takenOf, optionsOf, Ranged}
+use Rattle.options.specs.Words.{wholeOf, ratioOf, behindOf, pointOf, epsOf, onValue, withEps, withPasses, withFilter, withEdge, wordOf, optionsOf, Ranged}
 
 unfoldable RangedTaken : Taken → Type 0
 RangedTaken (Settings o) = Ranged o
@@ -76,8 +76,8 @@ unfolding RangedTaken
 picture = tt
 
 -- THE LAW
-ranged : (o : Options) (s : List ℕ) → Ranged o → RangedTaken (takenOf o s)
-unfolding takenOf
+ranged : (o : Options) (s : List ℕ) → Ranged o → RangedTaken (wordOf o s)
+unfolding wordOf
 ranged o s r =
     either RangedTaken _ _ _ (λ a. on-value 4294967296 (epsOf s 6) (withEps o) (below-eps s 6) (λ n h. record { eps = h; passes = r .passes; filter = r .filter; edge = r .edge }))
     (λ a. either RangedTaken _ _ _ (λ b. on-value 4294967296 (wholeOf s 11 4294967295) (withPasses o) (below-whole s 11 4294967295) (λ n h. record { eps = r .eps; passes = h; filter = r .filter; edge = r .edge }))
@@ -89,6 +89,6 @@ pub defaults-ranged : Ranged (optionsOf defaultsOf)
 unfolding optionsOf
 defaults-ranged = record { eps = toBits-lt binary32 (defaultsOf .eps) (ofBits-fits binary32 0x38d1_b717); passes = omega arith; filter = omega arith; edge = omega arith }
 
-pub stays : (o : Options) (s : List ℕ) (p : Options) → Ranged o → takenOf o s ≡ Settings p → Ranged p
+pub stays : (o : Options) (s : List ℕ) (p : Options) → Ranged o → wordOf o s ≡ Settings p → Ranged p
 unfolding RangedTaken
 stays o s p r e = subst RangedTaken e (ranged o s r)

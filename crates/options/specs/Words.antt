@@ -70,9 +70,9 @@ abbrev pub withEdge : Options → ℕ → Options
 withEdge o n = record { eps = o .eps; passes = o .passes; filter = o .filter; edge = n }
 
 -- `--eps=`, `--max-iter=`, `--filter=`, `--edge=`, `--`
-unfoldable pub takenOf : Options → List ℕ → Taken
+unfoldable pub wordOf : Options → List ℕ → Taken
 unfolding begins onValue epsOf wholeOf
-takenOf o s =
+wordOf o s =
     pick (begins s (45 ∷ 45 ∷ 101 ∷ 112 ∷ 115 ∷ 61 ∷ [])) (onValue (epsOf s 6) (withEps o))
     (pick (begins s (45 ∷ 45 ∷ 109 ∷ 97 ∷ 120 ∷ 45 ∷ 105 ∷ 116 ∷ 101 ∷ 114 ∷ 61 ∷ [])) (onValue (wholeOf s 11 4294967295) (withPasses o))
     (pick (begins s (45 ∷ 45 ∷ 102 ∷ 105 ∷ 108 ∷ 116 ∷ 101 ∷ 114 ∷ 61 ∷ [])) (onValue (wholeOf s 9 65535) (withFilter o))

@@ -3,7 +3,7 @@ ghost use mathlib.Core.Path.{_≡_};
 ghost use Prim.Native.Nat.{_+_, _≤_, _^_};
 ghost use lib.ListN.{length};
 ghost use Rattle.settings.specs.Settings.{defaultsOf};
-ghost use Rattle.options.specs.Words.{wholeOf, ratioOf, behindOf, pointOf, epsOf, begins as Words·begins, onValue, withEps, withPasses, withFilter, withEdge, takenOf, optionsOf};
+ghost use Rattle.options.specs.Words.{wholeOf, ratioOf, behindOf, pointOf, epsOf, begins as Words·begins, onValue, withEps, withPasses, withFilter, withEdge, wordOf, optionsOf};
 use settings::EccConfig;
 
 // A number, or none that is in range.
@@ -184,7 +184,7 @@ fn with_edge(o: Options, s: &[u8]) -> Taken
 
 // What a word is, with the settings so far.
 pub fn take_word(o: Options, s: &[u8]) -> Taken
-    ensures { λ r. ⌜ r ≡ takenOf o (now (s .entry)) ⌝ }
+    ensures { λ r. ⌜ r ≡ wordOf o (now (s .entry)) ⌝ }
 {
     if begins(s, b"--eps=") {
         return with_eps(o, s);

@@ -9,7 +9,7 @@ use borrow.Author.Tests.{lt-ltb, le-ltb}
 use Rattle.lists.specs.Marked.{pick}
 use Rattle.lists.proofs.Cases.{pick-true, pick-false}
 use Rattle.marks.specs.Marks.{countOn}
-use Rattle.pose.specs.Pose.{mapOf}
+use Rattle.pose.specs.Pose.{affineFromThetaTxTy}
 use Rattle.pose.specs.declared.Map.{Map}
 use Rattle.pose.specs.declared.Pose.{Pose}
 use Rattle.places.specs.Point.{marksOf}
@@ -55,7 +55,7 @@ module _ (ms : List ℕ) (template warped j1 j2 : List Float) (w h : ℕ) (eps :
     on-unsettled rho e r q = q ∙ rw e at by-verdict
 
 -- ---- the marks first
-module _ (template input gx gy : List Float) (w h : ℕ) (eps : Float) (p : Pose) (last : Float) (map : Map) (is-map : map ≡ mapOf p) where
+module _ (template input gx gy : List Float) (w h : ℕ) (eps : Float) (p : Pose) (last : Float) (map : Map) (is-map : map ≡ affineFromThetaTxTy p) where
   abbrev weighed : Step
   weighed = weighedOf (marksOf map w h) template (warpOf input map w h) (warpOf gx map w h) (warpOf gy map w h) w h eps p last
 

@@ -10,7 +10,7 @@ use Rattle.marks.specs.Marks.{countOn}
 use Rattle.pose.specs.declared.Map.{Map}
 use Rattle.places.specs.Point.{marksOf}
 use Rattle.pass.specs.Kept.{KeptMarks}
-use Rattle.pass.proofs.Sizes.{length-marks}
+use Rattle.places.proofs.Sizes.{length-marks}
 
 module _ (map : Map) (w h : ℕ) (ms ms′ : List ℕ) (is-ms′ : ms′ ≡ put ms 0 (marksOf map w h)) where
   pub front : take (w * h) ms′ ≡ marksOf map w h

@@ -18,7 +18,8 @@ use Rattle.sums.specs.Sums.{steepOf}
 use Rattle.solve.specs.Solve.{solveOf}
 use Rattle.solve.specs.declared.Step.{Step}
 use Rattle.sums.proofs.Rows.{length-steep}
-use Rattle.pass.proofs.Sizes.{length-warp, length-centred}
+use Rattle.warp.proofs.Sizes.{length-warp}
+use Rattle.stats.proofs.Sizes.{length-centred}
 
 module _ (n j : ℕ) (xs : List Float) where
   abbrev size : ℕ

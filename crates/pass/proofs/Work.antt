@@ -19,7 +19,8 @@ use Rattle.solve.specs.declared.Step.{Step}
 use Rattle.pass.specs.Pass.{weighedOf}
 use Rattle.pass.specs.Kept.{Kept}
 use Rattle.sums.proofs.Rows.{length-steep}
-use Rattle.pass.proofs.Sizes.{length-warp, length-centred}
+use Rattle.warp.proofs.Sizes.{length-warp}
+use Rattle.stats.proofs.Sizes.{length-centred}
 use Rattle.pass.proofs.Stays.{kept-sets, kept-kept}
 
 -- ---- after the warp

@@ -11,7 +11,7 @@ use Rattle.stats.specs.Stats.{centredOf, statsOf}
 use Rattle.verdict.specs.Verdict.{verdictOf}
 use Rattle.verdict.specs.declared.Verdict.{Verdict}
 use Rattle.verdict.specs.declared.Verdict.the-variants.{Bad, Settled, Unsettled}
-use Rattle.pose.specs.Pose.{mapOf}
+use Rattle.pose.specs.Pose.{affineFromThetaTxTy}
 use Rattle.pose.specs.declared.Pose.{Pose}
 use Rattle.sums.specs.Sums.{steepOf}
 use Rattle.solve.specs.Solve.{solveOf}
@@ -26,16 +26,16 @@ onward (Unsettled rho) update = update rho
 
 -- a pass after its warp, by its marks, the prepared template and the three warped images: the tests 6 and 7, the stop, the second half
 unfoldable pub weighedOf : List ℕ → List Float → List Float → List Float → List Float → ℕ → ℕ → Float → Pose → Float → Step
-weighedOf marks template warped j1 j2 w h eps p last =
+weighedOf marks template warped gxw gyw w h eps p last =
     let n = w * h in
-    let tz = centredOf marks n template in
-    let iz = centredOf marks n warped in
-    let s = statsOf marks n tz iz in
-    onward (verdictOf s last eps) (solveOf marks n p (steepOf w h (p .theta) j1 j2) j1 j2 tz iz s)
+    let «template_zm» = centredOf marks n template in
+    let «image_zm» = centredOf marks n warped in
+    let s = statsOf marks n «template_zm» «image_zm» in
+    onward (verdictOf s last eps) (solveOf marks n p (steepOf w h (p .theta) gxw gyw) gxw gyw «template_zm» «image_zm» s)
 
 -- the pass of the prepared template over the prepared input and its gradients, at a pose
 unfoldable pub passOf : List Float → List Float → List Float → List Float → ℕ → ℕ → Float → Pose → Float → Step
 passOf template input gx gy w h eps p last =
-    let map = mapOf p in
+    let map = affineFromThetaTxTy p in
     let marks = marksOf map w h in
     pick (ltb (countOn marks (w * h)) 16) (Refuse 5) (weighedOf marks template (warpOf input map w h) (warpOf gx map w h) (warpOf gy map w h) w h eps p last)

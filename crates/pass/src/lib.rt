@@ -6,6 +6,7 @@ ghost use mathlib.Core.Path.{_≡_};
 ghost use Prim.Native.Nat.{_*_, _≤_};
 ghost use lib.ListN.{length};
 ghost use Rattle.lists.specs.Lists.{put, image, setImage};
+ghost use Rattle.lists.specs.Premises.{InRange, Lent, RowScratch};
 ghost use Rattle.marks.specs.Marks.{countOn};
 ghost use Rattle.floats.specs.Bound.{Within};
 ghost use Rattle.places.specs.Point.{marksOf};
@@ -29,8 +30,12 @@ fn warp_work(
     across: &mut [f32],
     down: &mut [f32],
 ) -> usize
-    requires { ⌜ (1 ≤ w) × (w ≤ 4096) × (1 ≤ h) × (h ≤ 4096) × (12 * (w * h) ≤ length (now work)) × (w * h ≤ length (now marks)) × (w ≤ length (now spots)) × (w ≤ length (now across)) × (w ≤ length (now down)) ⌝ }
-    ensures { λ r. ⌜ (let n = w * h in let xs = now (work .entry) in now (work .exit) ≡ setImage n 7 (warpOf (image n 4 xs) map w h) (setImage n 6 (warpOf (image n 3 xs) map w h) (setImage n 5 (warpOf (image n 2 xs) map w h) xs))) ⌝ }
+    requires { ⌜ InRange w h × Lent (w * h) (now work) (now marks) × RowScratch w (now spots) (now across) (now down) ⌝ }
+    ensures { λ r. ⌜
+        (let n = w * h in let xs = now (work .entry) in
+        now (work .exit) ≡ setImage n 7 (warpOf (image n 4 xs) map w h)
+        (setImage n 6 (warpOf (image n 3 xs) map w h) (setImage n 5 (warpOf (image n 2 xs) map w h) xs)))
+        ⌝ }
     ensures { λ r. ⌜ (now (marks .exit) ≡ put (now (marks .entry)) 0 (marksOf map w h)) × (r ≡ countOn (marksOf map w h) (w * h)) ⌝ }
 {
     let n = w * h;
@@ -39,9 +44,15 @@ fn warp_work(
 
 // The centred images within the work: of 8 and 5 into 9 and 10.
 fn centre_work(work: &mut [f32], marks: &[u8], n: usize, found: usize) -> stats::Stats
-    requires { ⌜ (n ≤ 16777216) × (found ≡ countOn (now marks) n) × (12 * n ≤ length (now work)) × (n ≤ length (now marks)) ⌝ }
-    ensures { λ r. ⌜ (let ms = now (marks .entry) in let xs = now (work .entry) in now (work .exit) ≡ setImage n 10 (centredOf ms n (image n 5 xs)) (setImage n 9 (centredOf ms n (image n 8 xs)) xs)) ⌝ }
-    ensures { λ r. ⌜ (let ms = now (marks .entry) in let xs = now (work .entry) in r ≡ statsOf ms n (centredOf ms n (image n 8 xs)) (centredOf ms n (image n 5 xs))) ⌝ }
+    requires { ⌜ (n ≤ 16777216) × (found ≡ countOn (now marks) n) × Lent n (now work) (now marks) ⌝ }
+    ensures { λ r. ⌜
+        (let ms = now (marks .entry) in let xs = now (work .entry) in
+        now (work .exit) ≡ setImage n 10 (centredOf ms n (image n 5 xs)) (setImage n 9 (centredOf ms n (image n 8 xs)) xs))
+        ⌝ }
+    ensures { λ r. ⌜
+        (let ms = now (marks .entry) in let xs = now (work .entry) in
+        r ≡ statsOf ms n (centredOf ms n (image n 8 xs)) (centredOf ms n (image n 5 xs)))
+        ⌝ }
 {
     stats::centered_stats_in_place(&mut work[5 * n..], marks, n, found)
 }
@@ -56,9 +67,16 @@ fn solve_work(
     s: stats::Stats,
     rho: f32,
 ) -> Step
-    requires { ⌜ (1 ≤ w) × (w ≤ 4096) × (1 ≤ h) × (h ≤ 4096) × (12 * (w * h) ≤ length (now work)) × (w * h ≤ length (now marks)) × Within (at .theta) 2 1 ⌝ }
-    ensures { λ r. ⌜ (let n = w * h in let xs = now (work .entry) in now (work .exit) ≡ setImage n 11 (steepOf w h (at .theta) (image n 6 xs) (image n 7 xs)) xs) ⌝ }
-    ensures { λ r. ⌜ (let n = w * h in let xs = now (work .entry) in r ≡ solveOf (now (marks .entry)) n at (steepOf w h (at .theta) (image n 6 xs) (image n 7 xs)) (image n 6 xs) (image n 7 xs) (image n 9 xs) (image n 10 xs) s rho) ⌝ }
+    requires { ⌜ InRange w h × Lent (w * h) (now work) (now marks) × Within (at .theta) 2 1 ⌝ }
+    ensures { λ r. ⌜
+        (let n = w * h in let xs = now (work .entry) in
+        now (work .exit) ≡ setImage n 11 (steepOf w h (at .theta) (image n 6 xs) (image n 7 xs)) xs)
+        ⌝ }
+    ensures { λ r. ⌜
+        (let n = w * h in let xs = now (work .entry) in
+        r ≡ solveOf (now (marks .entry)) n at (steepOf w h (at .theta) (image n 6 xs) (image n 7 xs)) (image n 6 xs) (image n 7 xs)
+        (image n 9 xs) (image n 10 xs) s rho)
+        ⌝ }
 {
     let n = w * h;
     solve::solve(&mut work[6 * n..], marks, w, h, at, s, rho)
@@ -75,8 +93,11 @@ fn weigh(
     last: f32,
     found: usize,
 ) -> Step
-    requires { ⌜ (1 ≤ w) × (w ≤ 4096) × (1 ≤ h) × (h ≤ 4096) × (12 * (w * h) ≤ length (now work)) × (w * h ≤ length (now marks)) × (found ≡ countOn (now marks) (w * h)) × Within (at .theta) 2 1 ⌝ }
-    ensures { λ r. ⌜ (let n = w * h in let xs = now (work .entry) in r ≡ weighedOf (now (marks .entry)) (image n 8 xs) (image n 5 xs) (image n 6 xs) (image n 7 xs) w h eps at last) ⌝ }
+    requires { ⌜ InRange w h × Lent (w * h) (now work) (now marks) × (found ≡ countOn (now marks) (w * h)) × Within (at .theta) 2 1 ⌝ }
+    ensures { λ r. ⌜
+        (let n = w * h in let xs = now (work .entry) in
+        r ≡ weighedOf (now (marks .entry)) (image n 8 xs) (image n 5 xs) (image n 6 xs) (image n 7 xs) w h eps at last)
+        ⌝ }
     ensures { λ r. ⌜ Kept (w * h) (now (work .entry)) (now (work .exit)) ⌝ }
 {
     let n = w * h;
@@ -101,8 +122,11 @@ pub fn pass(
     across: &mut [f32],
     down: &mut [f32],
 ) -> Step
-    requires { ⌜ (1 ≤ w) × (w ≤ 4096) × (1 ≤ h) × (h ≤ 4096) × (12 * (w * h) ≤ length (now work)) × (w * h ≤ length (now marks)) × (w ≤ length (now spots)) × (w ≤ length (now across)) × (w ≤ length (now down)) × Within (at .theta) 2 1 ⌝ }
-    ensures { λ r. ⌜ r ≡ passOf (image (w * h) 8 (now (work .entry))) (image (w * h) 2 (now (work .entry))) (image (w * h) 3 (now (work .entry))) (image (w * h) 4 (now (work .entry))) w h eps at last ⌝ }
+    requires { ⌜ InRange w h × Lent (w * h) (now work) (now marks) × RowScratch w (now spots) (now across) (now down) × Within (at .theta) 2 1 ⌝ }
+    ensures { λ r. ⌜
+        r ≡ passOf (image (w * h) 8 (now (work .entry))) (image (w * h) 2 (now (work .entry))) (image (w * h) 3 (now (work .entry)))
+        (image (w * h) 4 (now (work .entry))) w h eps at last
+        ⌝ }
     ensures { λ r. ⌜ Kept (w * h) (now (work .entry)) (now (work .exit)) × KeptMarks (w * h) (now (marks .entry)) (now (marks .exit)) ⌝ }
 {
     let n = w * h;

@@ -15,12 +15,12 @@ use Rattle.lists.proofs.Put.{set-put, put-none}
 use Rattle.scan.specs.declared.Digits.{Digits}
 use Rattle.pgm.specs.declared.Found.{Found}
 use Rattle.pgm.specs.declared.Found.the-variants.{Number, Nothing}
-use Rattle.pgm.specs.Frame.{pixelAt, pixelsOf, faultOf}
+use Rattle.pgm.specs.Frame.{pixelAt, grayPixelsOf, faultOf}
 use Rattle.pgm.proofs.Founds.{no-number, a-number}
 
 module _ (plain : Bool) (max : ℕ) (s : List ℕ) where
   abbrev pixels : ℕ → ℕ → List ℕ
-  pixels a n = pixelsOf plain max s a n
+  pixels a n = grayPixelsOf plain max s a n
 
   abbrev fault : ℕ → ℕ → ℕ
   fault a n = faultOf plain max s a n
@@ -28,7 +28,7 @@ module _ (plain : Bool) (max : ℕ) (s : List ℕ) where
   -- ---- the first of them: missing, too large, or a pixel
   module _ (a m : ℕ) {f : Found} (e : f ≡ pixelAt plain s a) where
     missing-pixels : f ≡ Nothing → pixels a (suc m) ≡ []
-    unfolding pixelsOf
+    unfolding grayPixelsOf
     missing-pixels n = no-number _ _ e n
 
     missing-fault : f ≡ Nothing → fault a (suc m) ≡ 6
@@ -37,7 +37,7 @@ module _ (plain : Bool) (max : ℕ) (s : List ℕ) where
 
     module _ (d : Digits) (n : f ≡ Number d) where
       large-pixels : max < d .value → pixels a (suc m) ≡ []
-      unfolding pixelsOf
+      unfolding grayPixelsOf
       large-pixels h = a-number _ _ e d n ∙ pick-true _ _ _ (lt-ltb max (d .value) h)
 
       large-fault : max < d .value → fault a (suc m) ≡ 7
@@ -45,7 +45,7 @@ module _ (plain : Bool) (max : ℕ) (s : List ℕ) where
       large-fault h = a-number _ _ e d n ∙ pick-true _ _ _ (lt-ltb max (d .value) h)
 
       next-pixels : d .value ≤ max → pixels a (suc m) ≡ d .value ∷ pixels (d .next) m
-      unfolding pixelsOf
+      unfolding grayPixelsOf
       next-pixels h = a-number _ _ e d n ∙ pick-false _ _ _ (le-ltb max (d .value) h)
 
       next-fault : d .value ≤ max → fault a (suc m) ≡ fault (d .next) m
@@ -53,7 +53,7 @@ module _ (plain : Bool) (max : ℕ) (s : List ℕ) where
       next-fault h = a-number _ _ e d n ∙ pick-false _ _ _ (le-ltb max (d .value) h)
 
   pub no-pixels : (a : ℕ) → pixels a 0 ≡ []
-  unfolding pixelsOf
+  unfolding grayPixelsOf
   no-pixels a = refl
 
   pub no-fault : (a : ℕ) → fault a 0 ≡ 0
@@ -63,10 +63,10 @@ module _ (plain : Bool) (max : ℕ) (s : List ℕ) where
 -- ---- the loop: i of n pixels stand in ys, which was xs, and the next one begins at a
 pub record Filled (plain : Bool) (max : ℕ) (s : List ℕ) (at n : ℕ) (xs ys : List ℕ) (a i : ℕ) : Type 0 where
   pub below : i ≤ n
-  pub some : i ≤ length (pixelsOf plain max s at n)
+  pub some : i ≤ length (grayPixelsOf plain max s at n)
   pub same : length ys ≡ length xs
-  pub done : ys ≡ put xs 10 (take i (pixelsOf plain max s at n))
-  pub rest : drop i (pixelsOf plain max s at n) ≡ pixelsOf plain max s a (n - i)
+  pub done : ys ≡ put xs 10 (take i (grayPixelsOf plain max s at n))
+  pub rest : drop i (grayPixelsOf plain max s at n) ≡ grayPixelsOf plain max s a (n - i)
   pub fault : faultOf plain max s a (n - i) ≡ faultOf plain max s at n
 
 pub filled-none : (plain : Bool) (max : ℕ) (s : List ℕ) (at n : ℕ) (xs : List ℕ) → Filled plain max s at n xs xs at 0
@@ -81,7 +81,7 @@ filled-none plain max s at n xs = record {
 
 module _ {plain : Bool} {max : ℕ} {s : List ℕ} {at n : ℕ} {xs ys : List ℕ} {a i : ℕ} (r : Filled plain max s at n xs ys a i) where
   abbrev all : List ℕ
-  all = pixelsOf plain max s at n
+  all = grayPixelsOf plain max s at n
 
   -- no pixel more
   stopped : drop i all ≡ [] → ys ≡ put xs 10 all
@@ -92,7 +92,7 @@ module _ {plain : Bool} {max : ℕ} {s : List ℕ} {at n : ℕ} {xs ys : List �
   pub filled-end : n ≤ i → (0 ≡ faultOf plain max s at n) × (ys ≡ put xs 10 all)
   filled-end h =
       let e : n - i ≡ 0 = omega arith in
-      (sym (no-fault plain max s a) ∙ ap (faultOf plain max s a) (sym e) ∙ r .fault, stopped (r .rest ∙ ap (pixelsOf plain max s a) e ∙ no-pixels plain max s a))
+      (sym (no-fault plain max s a) ∙ ap (faultOf plain max s a) (sym e) ∙ r .fault, stopped (r .rest ∙ ap (grayPixelsOf plain max s a) e ∙ no-pixels plain max s a))
 
   module _ (h : i < n) {f : Found} (e : f ≡ pixelAt plain s a) where
     abbrev left : ℕ
@@ -103,21 +103,21 @@ module _ {plain : Bool} {max : ℕ} {s : List ℕ} {at n : ℕ} {xs ys : List �
 
     pub filled-missing : f ≡ Nothing → (6 ≡ faultOf plain max s at n) × (ys ≡ put xs 10 all)
     filled-missing m =
-        (sym (missing-fault plain max s a left e m) ∙ ap (faultOf plain max s a) (sym count) ∙ r .fault, stopped (r .rest ∙ ap (pixelsOf plain max s a) count ∙ missing-pixels plain max s a left e m))
+        (sym (missing-fault plain max s a left e m) ∙ ap (faultOf plain max s a) (sym count) ∙ r .fault, stopped (r .rest ∙ ap (grayPixelsOf plain max s a) count ∙ missing-pixels plain max s a left e m))
 
     module _ (d : Digits) (m : f ≡ Number d) where
       pub filled-large : max < d .value → (7 ≡ faultOf plain max s at n) × (ys ≡ put xs 10 all)
       filled-large k =
-          (sym (large-fault plain max s a left e d m k) ∙ ap (faultOf plain max s a) (sym count) ∙ r .fault, stopped (r .rest ∙ ap (pixelsOf plain max s a) count ∙ large-pixels plain max s a left e d m k))
+          (sym (large-fault plain max s a left e d m k) ∙ ap (faultOf plain max s a) (sym count) ∙ r .fault, stopped (r .rest ∙ ap (grayPixelsOf plain max s a) count ∙ large-pixels plain max s a left e d m k))
 
       module _ (k : d .value ≤ max) (room : 10 + n ≤ length xs) where
-        tail : drop i all ≡ d .value ∷ pixelsOf plain max s (d .next) left
-        tail = r .rest ∙ ap (pixelsOf plain max s a) count ∙ next-pixels plain max s a left e d m k
+        tail : drop i all ≡ d .value ∷ grayPixelsOf plain max s (d .next) left
+        tail = r .rest ∙ ap (grayPixelsOf plain max s a) count ∙ next-pixels plain max s a left e d m k
 
         more : i < length all
         more = omega (arith, length-drop i all, ap (λ (z : List ℕ). length z) tail)
 
-        both : getD all i 0 ∷ drop (suc i) all ≡ d .value ∷ pixelsOf plain max s (d .next) left
+        both : getD all i 0 ∷ drop (suc i) all ≡ d .value ∷ grayPixelsOf plain max s (d .next) left
         both = sym (drop-cons all i 0 more) ∙ tail
 
         longer : take (suc i) all ≡ take i all ++ (d .value ∷ [])

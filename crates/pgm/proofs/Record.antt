@@ -10,7 +10,7 @@ use lib.Dec.{ltb}
 use lib.ListN.{length}
 use Rattle.lists.specs.Lists.{put}
 use Rattle.lists.specs.Marked.{pick}
-use Rattle.lists.proofs.Cases.{pick-false}
+use Rattle.lists.proofs.Cases.{pick-false, either}
 use Rattle.lists.proofs.Put.{put-put}
 use Rattle.records.specs.declared.Record.the-variants.{Frame, Large}
 use Rattle.records.specs.Reading.{nextOf}
@@ -23,7 +23,7 @@ use Rattle.pgm.specs.declared.Header.the-variants.{Good, Bad}
 use Rattle.pgm.specs.declared.Made.{Made}
 use Rattle.pgm.specs.declared.Made.the-variants.{Size, Refused}
 use Rattle.pgm.specs.Pgm.{onNumber, headerOf}
-use Rattle.pgm.specs.Frame.{pixelAt, pixelsOf, faultOf, answerOf, recordOf, Framed}
+use Rattle.pgm.specs.Frame.{pixelAt, grayPixelsOf, faultOf, madeOf, recordOf, Framed}
 use Rattle.pgm.proofs.Right.{Right, sides, right}
 
 module _ (plain : Bool) (max : ℕ) (s : List ℕ) where
@@ -34,10 +34,10 @@ module _ (plain : Bool) (max : ℕ) (s : List ℕ) where
   onto Nothing P k x h = x
   onto (Number d) P k x h = h (d .value) (d .next)
 
-  few : (n a : ℕ) → length (pixelsOf plain max s a n) ≤ n
-  unfolding pixelsOf pick
+  few : (n a : ℕ) → length (grayPixelsOf plain max s a n) ≤ n
+  unfolding grayPixelsOf pick
   few zero a = omega arith
-  few (suc n) a = onto (pixelAt plain s a) (λ l. length l ≤ suc n) _ zero-le (λ v b. one (ltb max v) v (pixelsOf plain max s b n) (few n b))
+  few (suc n) a = onto (pixelAt plain s a) (λ l. length l ≤ suc n) _ zero-le (λ v b. one (ltb max v) v (grayPixelsOf plain max s b n) (few n b))
     where
       one : (t : Bool) (v : ℕ) (l : List ℕ) → length l ≤ n → length (pick t [] (v ∷ l)) ≤ suc n
       one true v l h = zero-le
@@ -45,9 +45,9 @@ module _ (plain : Bool) (max : ℕ) (s : List ℕ) where
 
   -- ---- the head, and then the pixels
 
-  pub put-all : (xs : List ℕ) (w h a : ℕ) → 10 + w * h ≤ length xs → put (put xs 0 (headBytes w h)) 10 (pixelsOf plain max s a (w * h)) ≡ put xs 0 (headBytes w h ++ pixelsOf plain max s a (w * h))
+  pub put-all : (xs : List ℕ) (w h a : ℕ) → 10 + w * h ≤ length xs → put (put xs 0 (headBytes w h)) 10 (grayPixelsOf plain max s a (w * h)) ≡ put xs 0 (headBytes w h ++ grayPixelsOf plain max s a (w * h))
   unfolding headBytes startBytes wordBytes halfBytes
-  put-all xs w h a room = put-put xs 0 (headBytes w h) (pixelsOf plain max s a (w * h)) (omega (arith, few (w * h) a))
+  put-all xs w h a room = put-put xs 0 (headBytes w h) (grayPixelsOf plain max s a (w * h)) (omega (arith, few (w * h) a))
 
   -- ---- where there is no fault, there are as many as were asked for
 
@@ -56,10 +56,10 @@ module _ (plain : Bool) (max : ℕ) (s : List ℕ) where
   full-at Nothing m x l h e = absurd (omega (arith, e))
   full-at (Number d) m x l h e = h (d .value) (d .next) e
 
-  full : (n a : ℕ) → faultOf plain max s a n ≡ 0 → length (pixelsOf plain max s a n) ≡ n
-  unfolding faultOf pixelsOf pick
+  full : (n a : ℕ) → faultOf plain max s a n ≡ 0 → length (grayPixelsOf plain max s a n) ≡ n
+  unfolding faultOf grayPixelsOf pick
   full zero a e = refl
-  full (suc n) a e = full-at (pixelAt plain s a) (suc n) _ _ (λ v b. one (ltb max v) v (faultOf plain max s b n) (pixelsOf plain max s b n) (full n b)) e
+  full (suc n) a e = full-at (pixelAt plain s a) (suc n) _ _ (λ v b. one (ltb max v) v (faultOf plain max s b n) (grayPixelsOf plain max s b n) (full n b)) e
     where
       one : (t : Bool) (v x : ℕ) (l : List ℕ) → (x ≡ 0 → length l ≡ n) → pick t 7 x ≡ 0 → length (pick t [] (v ∷ l)) ≡ suc n
       one true v x l h e = absurd (omega (arith, e))
@@ -78,6 +78,13 @@ sizeOf (Refused k) = 0
 long : (w h : ℕ) (p : List ℕ) → length p ≡ w * h → length (headBytes w h ++ p) ≡ 10 + w * h
 unfolding headBytes startBytes wordBytes halfBytes
 long w h p e = omega (arith, e)
+
+-- what is put never leaves the room
+pub record-fits : (s : List ℕ) (room : ℕ) (header : Header) → length (recordOf s room header) ≤ room
+unfolding recordOf headBytes startBytes wordBytes halfBytes
+record-fits s room (Bad k) = zero-le
+record-fits s room (Good plain w h max a) =
+    either (λ (l : List ℕ). length l ≤ room) _ _ _ (λ e. zero-le) (λ e. omega (arith, ltb-false room (10 + w * h) e, few plain max s (w * h) a))
 
 -- n bytes within the room, which hold the picture
 pub record Whole (s : List ℕ) (room n : ℕ) (header : Header) : Type 0 where
@@ -100,12 +107,12 @@ module _ (s : List ℕ) (room n : ℕ) where
   tests false true m f e = (refl, refl, ap sizeOf e)
   tests false false m f e = absurd (true≢false (sym (ap made e)))
 
-  whole-by : (header : Header) → Right header → answerOf s room header ≡ Size n → Whole s room n header
-  unfolding answerOf recordOf
+  whole-by : (header : Header) → Right header → madeOf s room header ≡ Size n → Whole s room n header
+  unfolding madeOf recordOf
   whole-by (Bad k) r e = absurd (true≢false (sym (ap made e)))
   whole-by (Good plain w h max a) r e =
       let t = tests _ _ _ _ e in
-      let p = pixelsOf plain max s a (w * h) in
+      let p = grayPixelsOf plain max s a (w * h) in
       let side = sides plain w h max a r in
       let l : length p ≡ w * h = full plain max s (w * h) a (eqb-true _ _ (t .1)) in
       let is : recordOf s room (Good plain w h max a) ≡ headBytes w h ++ p = pick-false _ _ _ (t .0) in
@@ -129,5 +136,5 @@ module _ (s : List ℕ) (room n : ℕ) where
       }
 
   -- THE LAW
-  pub whole : answerOf s room (headerOf s) ≡ Size n → Whole s room n (headerOf s)
+  pub whole : madeOf s room (headerOf s) ≡ Size n → Whole s room n (headerOf s)
   whole e = whole-by (headerOf s) (right s) e

@@ -10,7 +10,7 @@ use Rattle.pgm.specs.declared.Found.{Found}
 use Rattle.pgm.specs.declared.Found.the-variants.{Number, Nothing}
 use Rattle.pgm.specs.declared.Header.{Header}
 use Rattle.pgm.specs.declared.Header.the-variants.{Good, Bad}
-use Rattle.pgm.specs.Pgm.{numberAt, onNumber, startOf, inside, rangesOf, headerOf}
+use Rattle.pgm.specs.Pgm.{numberAt, onNumber, startOf, from1To, rangesOf, headerOf}
 
 unfoldable pub Right : Header → Type 0
 Right (Bad k) = Unit {0}
@@ -28,8 +28,8 @@ pub sides : (plain : Bool) (w h max a : ℕ) → Right (Good plain w h max a) �
 unfolding Right
 sides plain w h max a r = r
 
-most : (n m : ℕ) → inside n m ≡ true → n ≤ m
-unfolding inside
+most : (n m : ℕ) → from1To n m ≡ true → n ≤ m
+unfolding from1To
 most n m e = leb-true n m (second (ltb 0 n) (leb n m) e)
   where
     second : (a b : Bool) → a && b ≡ true → b ≡ true

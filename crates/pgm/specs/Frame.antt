@@ -23,10 +23,10 @@ unfoldable pub pixelAt : Bool → List ℕ → ℕ → Found
 pixelAt plain s a = pick plain (numberAt s a) (pick (ltb a (length s)) (Number (record { value = getD s a 0; next = a + 1 })) Nothing)
 
 -- n pixels from a on, up to the first that is missing or too large
-unfoldable pub pixelsOf : Bool → ℕ → List ℕ → ℕ → ℕ → List ℕ
+unfoldable pub grayPixelsOf : Bool → ℕ → List ℕ → ℕ → ℕ → List ℕ
 unfolding pixelAt onNumber
-pixelsOf plain max s a zero = []
-pixelsOf plain max s a (suc n) = onNumber (pixelAt plain s a) [] (λ v b. pick (ltb max v) [] (v ∷ pixelsOf plain max s b n))
+grayPixelsOf plain max s a zero = []
+grayPixelsOf plain max s a (suc n) = onNumber (pixelAt plain s a) [] (λ v b. pick (ltb max v) [] (v ∷ grayPixelsOf plain max s b n))
 
 -- what is wrong with that one; 0: there is none
 unfoldable pub faultOf : Bool → ℕ → List ℕ → ℕ → ℕ → ℕ
@@ -35,18 +35,18 @@ faultOf plain max s a zero = 0
 faultOf plain max s a (suc n) = onNumber (pixelAt plain s a) 6 (λ v b. pick (ltb max v) 7 (faultOf plain max s b n))
 
 -- by the header, with room for so many bytes
-unfoldable pub answerOf : List ℕ → ℕ → Header → Made
+unfoldable pub madeOf : List ℕ → ℕ → Header → Made
 unfolding faultOf
-answerOf s room (Bad k) = Refused k
-answerOf s room (Good plain w h max a) =
+madeOf s room (Bad k) = Refused k
+madeOf s room (Good plain w h max a) =
     pick (ltb room (10 + w * h)) (Refused 5)
     (pick (eqb (faultOf plain max s a (w * h)) 0) (Size (10 + w * h)) (Refused (faultOf plain max s a (w * h))))
 
 -- what is put at the front of the room; of a picture that is refused late, as far as it is right
 unfoldable pub recordOf : List ℕ → ℕ → Header → List ℕ
-unfolding pixelsOf
+unfolding grayPixelsOf
 recordOf s room (Bad k) = []
-recordOf s room (Good plain w h max a) = pick (ltb room (10 + w * h)) [] (headBytes w h ++ pixelsOf plain max s a (w * h))
+recordOf s room (Good plain w h max a) = pick (ltb room (10 + w * h)) [] (headBytes w h ++ grayPixelsOf plain max s a (w * h))
 
 -- bytes that the program `pinlog` reads as one frame, all of it, whatever follows: w by h pixels, or a body that is too large for it
 pub record Framed (l : List ℕ) : Type 0 where

@@ -6,7 +6,7 @@ use mathlib.Core.List.{List, [], _∷_}
 use lib.Dec.{ltb, leb, eqb}
 use lib.ListN.{drop, getD}
 use Rattle.lists.specs.Marked.{pick}
-use Rattle.scan.specs.Scan.{digit, digitsAt}
+use Rattle.scan.specs.Scan.{isDigit, digitsAt}
 use Rattle.pgm.specs.declared.Found.{Found}
 use Rattle.pgm.specs.declared.Found.the-variants.{Number, Nothing}
 use Rattle.pgm.specs.declared.Header.{Header}
@@ -39,7 +39,7 @@ gapOf c (b ∷ s) = pick (between c b) (suc (gapOf (openAfter c b) s)) 0
 
 -- the digits from a on, if any
 unfoldable pub digitsFrom : List ℕ → ℕ → Found
-digitsFrom s a = pick (digit (getD s a 0)) (Number (digitsAt s a 0 65536)) Nothing
+digitsFrom s a = pick (isDigit (getD s a 0)) (Number (digitsAt s a 0 65536)) Nothing
 
 -- a number behind white space and comments
 unfoldable pub numberAt : List ℕ → ℕ → Found
@@ -68,13 +68,13 @@ unfolding blank
 startOf s w h max a = pick (eqb (getD s 1 0) 50) (Good true w h max a) (pick (blank (getD s a 0)) (Good false w h max (a + 1)) (Bad 2))
 
 -- from 1 to most
-unfoldable pub inside : ℕ → ℕ → Bool
-inside n most = ltb 0 n && leb n most
+unfoldable pub from1To : ℕ → ℕ → Bool
+from1To n most = ltb 0 n && leb n most
 
 unfoldable pub rangesOf : List ℕ → ℕ → ℕ → ℕ → ℕ → Header
-unfolding inside startOf
+unfolding from1To startOf
 rangesOf s w h max a =
-    pick (inside w 65535) (pick (inside h 65535) (pick (inside max 255) (startOf s w h max a) (Bad 4)) (Bad 3)) (Bad 3)
+    pick (from1To w 65535) (pick (from1To h 65535) (pick (from1To max 255) (startOf s w h max a) (Bad 4)) (Bad 3)) (Bad 3)
 
 -- width, height, largest gray
 unfoldable pub headerOf : List ℕ → Header

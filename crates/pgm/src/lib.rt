@@ -6,8 +6,8 @@ ghost use mathlib.Core.Bool.{false};
 ghost use Prim.Native.Nat.{_+_, _*_, _≤_};
 ghost use lib.ListN.{length, drop, getD};
 ghost use Rattle.lists.specs.Lists.{put};
-ghost use Rattle.pgm.specs.Pgm.{blank, openAfter, between, gapOf, numberAt, kind, magic, startOf, inside, rangesOf, headerOf};
-ghost use Rattle.pgm.specs.Frame.{pixelAt, pixelsOf, faultOf, answerOf, recordOf};
+ghost use Rattle.pgm.specs.Pgm.{blank, openAfter, between, gapOf, numberAt, kind, magic, startOf, from1To, rangesOf, headerOf};
+ghost use Rattle.pgm.specs.Frame.{pixelAt, grayPixelsOf, faultOf, madeOf, recordOf};
 use scan::Digits;
 
 // A number and the index after it, or none.
@@ -132,7 +132,7 @@ fn is_magic(s: &[u8]) -> bool
 }
 
 fn is_inside(n: usize, most: usize) -> bool
-    ensures { λ r. ⌜ r ≡ inside n most ⌝ }
+    ensures { λ r. ⌜ r ≡ from1To n most ⌝ }
 {
     if n == 0 {
         return false;
@@ -224,7 +224,10 @@ fn pixel(s: &[u8], at: usize, plain: bool) -> Found
 // Puts n pixels into out from index 10 on, up to the first that is missing or above max, and answers what is wrong with that one.
 fn put_pixels(s: &[u8], at: usize, n: usize, max: usize, plain: bool, out: &mut [u8]) -> u8
     requires { ⌜ (10 + n ≤ length (now out)) × (max ≤ 255) ⌝ }
-    ensures { λ r. ⌜ (r ≡ faultOf plain max (now (s .entry)) at n) × (now (out .exit) ≡ put (now (out .entry)) 10 (pixelsOf plain max (now (s .entry)) at n)) ⌝ }
+    ensures { λ r. ⌜
+        (r ≡ faultOf plain max (now (s .entry)) at n)
+        × (now (out .exit) ≡ put (now (out .entry)) 10 (grayPixelsOf plain max (now (s .entry)) at n))
+        ⌝ }
 {
     let mut a = at;
     let mut i = 0;
@@ -254,8 +257,10 @@ fn put_read(
     out: &mut [u8],
 ) -> Made
     requires { ⌜ (w ≤ 65535) × (h ≤ 65535) × (max ≤ 255) ⌝ }
-    ensures { λ r. ⌜ r ≡ answerOf (now (s .entry)) (length (now (out .entry))) (Header.Good plain w h max at) ⌝ }
-    ensures { λ _. ⌜ now (out .exit) ≡ put (now (out .entry)) 0 (recordOf (now (s .entry)) (length (now (out .entry))) (Header.Good plain w h max at)) ⌝ }
+    ensures { λ r. ⌜ r ≡ madeOf (now (s .entry)) (length (now (out .entry))) (Header.Good plain w h max at) ⌝ }
+    ensures { λ _. ⌜
+        now (out .exit) ≡ put (now (out .entry)) 0 (recordOf (now (s .entry)) (length (now (out .entry))) (Header.Good plain w h max at))
+        ⌝ }
 {
     let n = w * h;
     if out.len() < 10 + n {
@@ -272,8 +277,10 @@ fn put_read(
 // Puts the frame record of a picture at the front of out. Of a picture that is refused for one of its pixels, out has what stands before
 // that one.
 pub fn put_frame(s: &[u8], out: &mut [u8]) -> Made
-    ensures { λ r. ⌜ r ≡ answerOf (now (s .entry)) (length (now (out .entry))) (headerOf (now (s .entry))) ⌝ }
-    ensures { λ _. ⌜ now (out .exit) ≡ put (now (out .entry)) 0 (recordOf (now (s .entry)) (length (now (out .entry))) (headerOf (now (s .entry)))) ⌝ }
+    ensures { λ r. ⌜ r ≡ madeOf (now (s .entry)) (length (now (out .entry))) (headerOf (now (s .entry))) ⌝ }
+    ensures { λ _. ⌜
+        now (out .exit) ≡ put (now (out .entry)) 0 (recordOf (now (s .entry)) (length (now (out .entry))) (headerOf (now (s .entry))))
+        ⌝ }
 {
     let found = read_header(s);
     match found {

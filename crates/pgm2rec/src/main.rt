@@ -5,11 +5,20 @@
 // Words are taken in order. A setting holds for the pictures behind it; before the first picture, and behind each change, a settings
 // record is written. At the first word that is wrong, or picture that is none, the program says so on standard error and ends; what it has
 // written are whole records.
-ghost use Prim.Native.Nat.{_≤_};
+//
+// What the system answers is handed to a function whose contract settles what comes of it: `heard`, `opened`, `filled`, `written`.
+ghost use mathlib.Core.Path.{_≡_};
+ghost use mathlib.Core.Bool.{Bool, _&&_};
+ghost use mathlib.Core.List.{_++_};
+ghost use Prim.Native.Nat.{_+_, _≤_, _<_};
 ghost use lib.ListN.{length};
-ghost use Rattle.options.specs.Words.{Ranged};
-ghost use Rattle.pgm.specs.Frame.{Framed};
-ghost use Rattle.pgm2rec.specs.Written.{Settled};
+ghost use Rattle.lists.specs.Lists.{put};
+ghost use Rattle.options.specs.Words.{wordOf};
+ghost use Rattle.pgm.specs.Pgm.{headerOf};
+ghost use Rattle.pgm.specs.Frame.{recordOf};
+ghost use Rattle.pgm2rec.specs.Course.{freshRun, onwardOf, stoppedOf, changedOf, writtenOf, dueOf, pictureOf, sizedOf, File, fileOf, fileRun, Shown, Opened, Answers, openedFile, takenRun, heardRun, WordTold, toldRun};
+ghost use Rattle.pgm2rec.specs.Whole.{Walked};
+use files::Filled;
 use libc::STDERR_FILENO;
 use libc::STDOUT_FILENO;
 use options::Options;
@@ -21,24 +30,76 @@ struct Run {
     options: Options,
     // The settings are still to be written.
     is_new: bool,
+    // The index of the next word.
+    next: usize,
     is_going: bool,
 }
 
-// The bytes of a file that a buffer holds, unless a read failed.
-struct Filled {
-    count: usize,
-    is_read: bool,
+// Before the first word.
+fn fresh() -> Run
+    ensures { λ r. ⌜ r ≡ freshRun ⌝ }
+{
+    let options = Options::defaults();
+    Run {
+        options,
+        is_new: true,
+        next: 1,
+        is_going: true,
+    }
 }
 
-fn stopped(run: Run) -> Run
-    requires { ⌜ Ranged (run .options) ⌝ }
-    ensures { λ r. ⌜ Ranged (r .options) ⌝ }
+// The word is passed.
+fn onward(run: Run) -> Run
+    requires { ⌜ run .next < 18446744073709551615 ⌝ }
+    ensures { λ r. ⌜ r ≡ onwardOf run ⌝ }
 {
     let options = run.options;
     Run {
         options,
         is_new: run.is_new,
+        next: run.next + 1,
+        is_going: run.is_going,
+    }
+}
+
+fn stopped(run: Run) -> Run
+    ensures { λ r. ⌜ r ≡ stoppedOf run ⌝ }
+{
+    let options = run.options;
+    Run {
+        options,
+        is_new: run.is_new,
+        next: run.next,
         is_going: false,
+    }
+}
+
+// With other settings, which are still to be written.
+fn changed(run: Run, options: Options) -> Run
+    ensures { λ r. ⌜ r ≡ changedOf run options ⌝ }
+{
+    Run {
+        options,
+        is_new: true,
+        next: run.next,
+        is_going: true,
+    }
+}
+
+// After a picture was written, or could not be.
+fn written(run: Run, is_out: bool) -> Run
+    ensures { λ r. ⌜ r ≡ writtenOf run «is_out» ⌝ }
+{
+    if !is_out {
+        os::fail(b"standard output");
+        return stopped(run);
+    }
+    let options = run.options;
+    Run {
+        options,
+        is_new: false,
+        next: run.next,
+        is_going: true,
     }
 }
 
@@ -63,74 +124,48 @@ fn explain(path: &[u8], k: u8) {
     }
 }
 
-// Reads until the buffer is full or the file ends.
-fn fill(fd: i32, buf: &mut [u8]) -> Filled
-    ensures { λ r. ⌜ r .count ≤ length (now (buf .entry)) ⌝ }
+// Puts the settings at the front of out, if they are new, and answers how many bytes they are.
+fn put_due(run: Run, out: &mut [u8]) -> usize
+    requires { ⌜ 20 ≤ length (now out) ⌝ }
+    ensures { λ r. ⌜ (r ≡ length (dueOf run)) × (now (out .exit) ≡ put (now (out .entry)) 0 (dueOf run)) ⌝ }
 {
-    let mut n = 0;
-    while n < buf.len() {
-        let got = libc::read(fd, &mut buf[n..]);
-        if got < 0 {
-            return Filled {
-                count: n,
-                is_read: false,
-            };
-        }
-        let k = io::count(got, &buf[n..]);
-        if k == 0 {
-            return Filled {
-                count: n,
-                is_read: true,
-            };
-        }
-        n += k;
+    if !run.is_new {
+        return 0;
     }
-    Filled {
-        count: n,
-        is_read: true,
+    let o = run.options;
+    encode::put_settings(out, o.eps, o.passes, o.filter, o.edge);
+    20
+}
+
+// Puts what is due and the picture's frame at the front of out, and answers how many bytes they are, or why the file is no picture.
+fn put_picture(run: Run, file: &[u8], out: &mut [u8]) -> Made
+    requires { ⌜ length (now out) ≡ 65556 ⌝ }
+    ensures { λ r. ⌜ r ≡ sizedOf run (pictureOf (now (file .entry))) ⌝ }
+    ensures { λ _. ⌜ now (out .exit) ≡ put (now (out .entry)) 0 (dueOf run ++ recordOf (now (file .entry)) 65536 (headerOf (now (file .entry)))) ⌝ }
+{
+    let k = put_due(run, out);
+    let e = k + 65536;
+    let made = pgm::put_frame(file, &mut out[k..e]);
+    match made {
+        Made::Refused(n) => Made::Refused(n),
+        Made::Size(n) => Made::Size(k + n),
     }
 }
 
-// A settings record, which `pinlog` reads as such.
-fn settings_record(o: Options) -> [u8; 20]
-    requires { ⌜ Ranged o ⌝ }
-    ensures { λ r. ⌜ Settled o r ⌝ }
-{
-    let mut bytes = [0u8; 20];
-    encode::put_settings(&mut bytes, o.eps, o.passes, o.filter, o.edge);
-    bytes
-}
-
-// Writes a frame record, and the settings before it where they are new. Nothing else is written to standard output.
+// Writes the records of a picture. Nothing else is written to standard output.
 fn write(run: Run, bytes: &[u8]) -> Run
-    requires { ⌜ Ranged (run .options) × Framed (now bytes) ⌝ }
-    ensures { λ r. ⌜ Ranged (r .options) ⌝ }
+    requires { ⌜ Shown run (now bytes) ⌝ }
+    ensures { λ r. ⌜ ((is_out : Bool) × (r ≡ writtenOf run is_out)) ⌝ }
 {
-    let options = run.options;
-    if run.is_new {
-        let head = settings_record(options);
-        if !io::write_all(STDOUT_FILENO, &head) {
-            os::fail(b"standard output");
-            return stopped(run);
-        }
-    }
-    if !io::write_all(STDOUT_FILENO, bytes) {
-        os::fail(b"standard output");
-        return stopped(run);
-    }
-    Run {
-        options,
-        is_new: false,
-        is_going: true,
-    }
+    written(run, io::write_all(STDOUT_FILENO, bytes))
 }
 
-// The picture that the bytes are, as a record.
-fn encoded(run: Run, path: &[u8], bytes: &[u8], out: &mut [u8]) -> Run
-    requires { ⌜ Ranged (run .options) ⌝ }
-    ensures { λ r. ⌜ Ranged (r .options) ⌝ }
+// What a file's bytes are as a picture: written, or refused.
+fn show(run: Run, path: &[u8], file: &[u8], out: &mut [u8]) -> Run
+    requires { ⌜ length (now out) ≡ 65556 ⌝ }
+    ensures { λ r. ⌜ ((is_out : Bool) × (r ≡ fileRun run is_out (File.Read (now (file .entry))))) ⌝ }
 {
-    let made = pgm::put_frame(bytes, out);
+    let made = put_picture(run, file, out);
     match made {
         Made::Refused(k) => {
             explain(path, k);
@@ -140,44 +175,57 @@ fn encoded(run: Run, path: &[u8], bytes: &[u8], out: &mut [u8]) -> Run
     }
 }
 
-// The picture of a file, as a record.
-fn picture(run: Run, path: &[u8], buf: &mut [u8], out: &mut [u8]) -> Run
-    requires { ⌜ Ranged (run .options) ⌝ }
-    ensures { λ r. ⌜ Ranged (r .options) ⌝ }
+// By how the file was read into the buffer.
+fn filled(run: Run, path: &[u8], file: Filled, buf: &[u8], out: &mut [u8]) -> Run
+    requires { ⌜ (length (now out) ≡ 65556) × (file .count ≤ length (now buf)) ⌝ }
+    ensures { λ r. ⌜ ((is_out : Bool) × (r ≡ fileRun run is_out (fileOf file (now (buf .entry))))) ⌝ }
 {
-    let fd = os::open_read(path);
-    if fd < 0 {
-        os::fail(path);
-        return stopped(run);
-    }
-    let file = fill(fd, buf);
-    let n = file.count;
     if !file.is_read {
         os::fail(path);
-        libc::close(fd);
         return stopped(run);
     }
-    libc::close(fd);
+    let n = file.count;
     if n == buf.len() {
         say(path, b"more than 65535 bytes");
         return stopped(run);
     }
-    encoded(run, path, &buf[..n], out)
+    show(run, path, &buf[..n], out)
 }
 
-// One word of the command line.
-fn take(run: Run, word: &[u8], buf: &mut [u8], out: &mut [u8]) -> Run
-    requires { ⌜ Ranged (run .options) ⌝ }
-    ensures { λ r. ⌜ Ranged (r .options) ⌝ }
+// By whether the file could be opened.
+fn opened(run: Run, path: &[u8], fd: i32, buf: &mut [u8], out: &mut [u8]) -> Run
+    requires { ⌜ (length (now buf) ≡ 65536) × (length (now out) ≡ 65556) ⌝ }
+    ensures { λ r. ⌜ Opened run fd (now (buf .exit)) r ⌝ }
 {
-    let taken = options::take_word(run.options, word);
-    match taken {
-        Taken::Settings(options) => Run {
-            options,
-            is_new: true,
-            is_going: true,
-        },
-        Taken::Picture => picture(run, word, buf, out),
+    if fd < 0 {
+        os::fail(path);
+        return stopped(run);
+    }
+    let file = files::fill(fd, buf);
+    let after = filled(run, path, file, buf, out);
+    libc::close(fd);
+    after
+}
+
+// The picture of a file.
+fn picture(run: Run, path: &[u8]) -> Run
+    ensures { λ r. ⌜ ((a : Answers) × (r ≡ fileRun run (a .out) (openedFile (a .fd) (a .file)))) ⌝ }
+{
+    let mut input = io::large_buffer();
+    let mut output = [0u8; 65556];
+    let buf: &mut [u8] = &mut input;
+    let out: &mut [u8] = &mut output;
+    opened(run, path, os::open_read(path), buf, out)
+}
+
+// By what the word is.
+fn taken(run: Run, word: &[u8]) -> Run
+    ensures { λ r. ⌜ ((a : Answers) × (r ≡ takenRun run a (wordOf (run .options) (now (word .entry))))) ⌝ }
+{
+    let kind = options::take_word(run.options, word);
+    match kind {
+        Taken::Settings(options) => changed(run, options),
+        Taken::Picture => picture(run, word),
         Taken::Bad => {
             say(word, b"no such setting, or no number in its range");
             stopped(run)
@@ -185,43 +233,54 @@ fn take(run: Run, word: &[u8], buf: &mut [u8], out: &mut [u8]) -> Run
     }
 }
 
-// The argument i.
-fn turn(run: Run, i: usize, name: &mut [u8], buf: &mut [u8], out: &mut [u8]) -> Run
-    requires { ⌜ Ranged (run .options) ⌝ }
-    ensures { λ r. ⌜ Ranged (r .options) ⌝ }
+// By whether the word could be had.
+fn heard(run: Run, error: i32, word: &[u8]) -> Run
+    ensures { λ r. ⌜ ((a : Answers) × (r ≡ heardRun run error (now (word .entry)) a)) ⌝ }
 {
-    let n = os::arg(i, name);
-    if os::errno() != 0 {
+    if error != 0 {
         os::fail(b"argument");
         return stopped(run);
     }
-    take(run, &name[..n], buf, out)
+    taken(run, word)
+}
+
+// The next word.
+fn turn(run: Run) -> Run
+    requires { ⌜ run .next < 18446744073709551615 ⌝ }
+    ensures { λ r. ⌜ ((t : WordTold) × (r ≡ toldRun run t)) ⌝ }
+{
+    let mut bytes = io::buffer();
+    let n = os::arg(run.next, &mut bytes);
+    heard(onward(run), os::errno(), &bytes[..n])
+}
+
+// All words, the first of which is the program's own name, as long as the run goes on.
+fn words(count: usize) -> Run
+    ensures { λ r. ⌜ Walked count r ⌝ }
+{
+    let mut run = fresh();
+    while run.next < count && run.is_going {
+        run = turn(run);
+    }
+    run
+}
+
+// Whether no picture stood behind the last setting, and nothing was wrong.
+fn is_idle(run: Run) -> bool
+    ensures { λ r. ⌜ r ≡ run .«is_going» && run .«is_new» ⌝ }
+{
+    if !run.is_going {
+        return false;
+    }
+    run.is_new
 }
 
 fn main() {
-    let mut name_bytes = io::buffer();
-    let mut input = io::large_buffer();
-    let mut output = io::large_buffer();
-    let name: &mut [u8] = &mut name_bytes;
-    let buf: &mut [u8] = &mut input;
-    let out: &mut [u8] = &mut output;
-    let count = os::arg_count();
-    let mut run = Run {
-        options: Options::defaults(),
-        is_new: true,
-        is_going: true,
-    };
-    let mut i = 1;
-    while i < count && run.is_going {
-        run = turn(run, i, name, buf, out);
-        i += 1;
-    }
-    if run.is_going {
-        if run.is_new {
-            say(
-                b"usage",
-                b"pgm2rec [--eps=DECIMAL] [--max-iter=N] [--filter=N] [--edge=N] PICTURE.. > records",
-            );
-        }
+    let run = words(os::arg_count());
+    if is_idle(run) {
+        say(
+            b"usage",
+            b"pgm2rec [--eps=DECIMAL] [--max-iter=N] [--filter=N] [--edge=N] PICTURE.. > records",
+        );
     }
 }

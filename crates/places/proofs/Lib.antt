@@ -1,2 +1,3 @@
 pub mod Point
 pub mod Places
+pub mod Sizes

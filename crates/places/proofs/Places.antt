@@ -17,8 +17,8 @@ use Rattle.lists.proofs.Grow.{getD-grid}
 use Rattle.marks.specs.Marks.{countOn}
 use Rattle.marks.proofs.Count.{count-byte, count-le}
 use Rattle.pose.specs.declared.Map.{Map}
-use Rattle.places.specs.Point.{sxOf, syOf, markedAt, marksOf}
-use Rattle.places.specs.Places.{PlaceAt, markOf, PlaceOf, Placed, PlacesOf}
+use Rattle.places.specs.Point.{sxOf, syOf, markedAt, marksOf, markOf}
+use Rattle.places.specs.Places.{PlaceAt, PlaceOf, Placed, PlacesOf}
 use Rattle.places.specs.declared.Place.{Place}
 
 -- ---- the marks

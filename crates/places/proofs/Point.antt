@@ -15,8 +15,8 @@ use Rattle.floats.proofs.Exactly.{add-whole, mul-whole}
 use Rattle.numbers.specs.Numbers.{floorOf}
 use Rattle.numbers.proofs.Small.{Below, below}
 use Rattle.pose.specs.declared.Map.{Map}
-use Rattle.places.specs.Point.{sxOf, syOf, inside, markedAt}
-use Rattle.places.specs.Places.{indexOf, PlaceAt, markOf, PlaceOf}
+use Rattle.places.specs.Point.{sxOf, syOf, inside, markedAt, indexOf, markOf}
+use Rattle.places.specs.Places.{PlaceAt, PlaceOf}
 use Rattle.places.specs.declared.Place.{Place}
 
 -- ---- a point inside
@@ -33,22 +33,22 @@ module _ (w h : ℕ) (sx sy : Float) (t : T (inside w h sx sy)) where
 corner-in : (x y w h : ℕ) → x < w - 1 → y < h - 1 → y * w + x + w + 1 < w * h
 corner-in x y w h p q = omega (arith, mul-le-mul-right {m = suc (suc y)} {n = h} w (omega arith))
 
--- ---- a coordinate that is held to 0 outside
+-- ---- a coordinate that is taken as 0 outside
 zero-below : Below 0f 4096
 unfolding ofBits floorOf round toUnsigned
 zero-below = record { small = lit≤ tt; index = lit< tt }
 
-held-below : (b : Bool) (s : Float) (k : ℕ) → k ≤ 4096 → (T b → Below s k) → Below (pick b s 0f) 4096
+zeroed-below : (b : Bool) (s : Float) (k : ℕ) → k ≤ 4096 → (T b → Below s k) → Below (pick b s 0f) 4096
 unfolding pick
-held-below true s k K f = let u = f tt in record { small = u .small; index = le-trans (u .index) K }
-held-below false s k K f = zero-below
+zeroed-below true s k K f = let u = f tt in record { small = u .small; index = le-trans (u .index) K }
+zeroed-below false s k K f = zero-below
 
 module _ (map : Map) (w h x y : ℕ) where
-  abbrev pub heldX : Float
-  heldX = pick (markedAt map w h x y) (sxOf map x y) 0f
+  abbrev pub zeroedX : Float
+  zeroedX = pick (markedAt map w h x y) (sxOf map x y) 0f
 
-  abbrev pub heldY : Float
-  heldY = pick (markedAt map w h x y) (syOf map x y) 0f
+  abbrev pub zeroedY : Float
+  zeroedY = pick (markedAt map w h x y) (syOf map x y) 0f
 
   fits-x : T (fits binary32 (sxOf map x y))
   unfolding sxOf
@@ -59,13 +59,13 @@ module _ (map : Map) (w h x y : ℕ) where
   fits-y = add-fits binary32 _ _
 
   module _ (W : w ≤ 4096) (H : h ≤ 4096) where
-    pub held-x : Below heldX 4096
+    pub zeroed-x : Below zeroedX 4096
     unfolding markedAt
-    held-x = held-below (markedAt map w h x y) (sxOf map x y) (w - 1) (omega arith) (λ t. inside-x w h _ _ t W fits-x)
+    zeroed-x = zeroed-below (markedAt map w h x y) (sxOf map x y) (w - 1) (omega arith) (λ t. inside-x w h _ _ t W fits-x)
 
-    pub held-y : Below heldY 4096
+    pub zeroed-y : Below zeroedY 4096
     unfolding markedAt
-    held-y = held-below (markedAt map w h x y) (syOf map x y) (h - 1) (omega arith) (λ t. inside-y w h _ _ t H fits-y)
+    zeroed-y = zeroed-below (markedAt map w h x y) (syOf map x y) (h - 1) (omega arith) (λ t. inside-y w h _ _ t H fits-y)
 
     -- the four pixels of a marked one lie inside
     pub spot-in : markedAt map w h x y ≡ true → indexOf (syOf map x y) * w + indexOf (sxOf map x y) + w + 1 < w * h
@@ -74,8 +74,8 @@ module _ (map : Map) (w h x y : ℕ) where
         let t : T (markedAt map w h x y) = rw e tt in
         corner-in (indexOf (sxOf map x y)) (indexOf (syOf map x y)) w h (inside-x w h _ _ t W fits-x .index) (inside-y w h _ _ t H fits-y .index)
 
-  -- a place, as the code works it out from the held coordinates
-  pub place-of : (p : Place) → p .mark ≡ pick (markedAt map w h x y) 1 0 → PlaceAt w heldX heldY (p .at) (p .across) (p .down) → PlaceOf map w h x y p
+  -- a place, as the code works it out from those coordinates
+  pub place-of : (p : Place) → p .mark ≡ pick (markedAt map w h x y) 1 0 → PlaceAt w zeroedX zeroedY (p .at) (p .across) (p .down) → PlaceOf map w h x y p
   unfolding markOf
   place-of p m o =
       record {

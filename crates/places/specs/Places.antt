@@ -4,19 +4,13 @@ use mathlib.Core.Bool.{true}
 use mathlib.Core.Path.{_≡_}
 use mathlib.Core.List.{List}
 use lib.ListN.{getD}
-use lib.Ieee.{Float, nan, toUnsigned}
+use lib.Ieee.{Float, nan}
 use Rattle.lists.specs.Lists.{tab, put}
-use Rattle.lists.specs.Marked.{pick}
 use Rattle.marks.specs.Marks.{countOn}
 use Rattle.floats.specs.F32.{_⊖_, f32}
-use Rattle.numbers.specs.Numbers.{floorOf}
 use Rattle.pose.specs.declared.Map.{Map}
 use Rattle.places.specs.declared.Place.{Place}
-use Rattle.places.specs.Point.{sxOf, syOf, markedAt, marksOf}
-
--- the index of a coordinate: the column or row of the pixel that it lies in
-unfoldable pub indexOf : Float → ℕ
-indexOf s = toUnsigned 64 (floorOf s)
+use Rattle.places.specs.Point.{sxOf, syOf, markedAt, markOf, marksOf, indexOf}
 
 -- of the point sx, sy: where the top left of its four pixels lies in an image, and the weights of the right and of the lower ones
 pub record PlaceAt (w : ℕ) (sx sy : Float) (at : ℕ) (across down : Float) : Type 0 where
@@ -24,16 +18,12 @@ pub record PlaceAt (w : ℕ) (sx sy : Float) (at : ℕ) (across down : Float) : 
   pub across-is : across ≡ sx ⊖ f32 (indexOf sx)
   pub down-is : down ≡ sy ⊖ f32 (indexOf sy)
 
--- the mark of the pixel x, y
-unfoldable pub markOf : Map → ℕ → ℕ → ℕ → ℕ → ℕ
-markOf map w h x y = pick (markedAt map w h x y) 1 0
-
 -- the mark of a pixel, and the place of one that is marked
 pub record PlaceOf (map : Map) (w h x y : ℕ) (p : Place) : Type 0 where
   pub mark-is : p .mark ≡ markOf map w h x y
   pub place-is : markedAt map w h x y ≡ true → PlaceAt w (sxOf map x y) (syOf map x y) (p .at) (p .across) (p .down)
 
--- the same of the first k pixels of the row y, held in three lists
+-- the same of the first k pixels of the row y, stored in three lists
 pub record Placed (map : Map) (w h y k : ℕ) (spots : List ℕ) (across down : List Float) : Type 0 where
   pub places-are : (x : ℕ) → x < k → markedAt map w h x y ≡ true → PlaceAt w (sxOf map x y) (syOf map x y) (getD spots x 0) (getD across x nan) (getD down x nan)
 

@@ -8,6 +8,7 @@ ghost use lib.Dec.{T};
 ghost use lib.Ieee.{binary32, inUnsigned, toUnsigned};
 ghost use lib.ListN.{length};
 ghost use Rattle.lists.specs.Marked.{pick};
+ghost use Rattle.lists.specs.Premises.{InRange, RowScratch};
 ghost use Rattle.marks.specs.Marks.{countOn};
 ghost use Rattle.floats.specs.F32.{0f};
 ghost use Rattle.places.specs.Point.{sxOf, syOf, inside, marksOf};
@@ -38,7 +39,7 @@ fn point_y(map: pose::Map, x: usize, y: usize) -> f32
 
 // Whether a point lies inside: a NaN never does.
 fn is_inside(w: usize, h: usize, sx: f32, sy: f32) -> bool
-    requires { ⌜ (1 ≤ w) × (w ≤ 4096) × (1 ≤ h) × (h ≤ 4096) ⌝ }
+    requires { ⌜ InRange w h ⌝ }
     ensures { λ r. ⌜ r ≡ inside w h sx sy ⌝ }
 {
     let right = numbers::to_f32_short(w - 1);
@@ -47,7 +48,7 @@ fn is_inside(w: usize, h: usize, sx: f32, sy: f32) -> bool
 }
 
 // The coordinate, or 0 where the point is not inside.
-fn held(within: bool, s: f32) -> f32
+fn or_zero(within: bool, s: f32) -> f32
     ensures { λ r. ⌜ r ≡ pick within s 0f ⌝ }
 {
     if within { s } else { 0.0 }
@@ -68,6 +69,7 @@ fn index(v: f32) -> u32
     v as u32
 }
 
+// Where a pixel lies in the source, its weights and its mark.
 // With no branch, so that a row of them is taken several at a time: outside, the place is that of the point 0, 0, which nobody reads.
 fn place_of(map: pose::Map, w: usize, h: usize, x: usize, y: usize) -> Place
     requires { ⌜ (x < w) × (w ≤ 4096) × (y < h) × (h ≤ 4096) ⌝ }
@@ -76,8 +78,8 @@ fn place_of(map: pose::Map, w: usize, h: usize, x: usize, y: usize) -> Place
     let sx = point_x(map, x, y);
     let sy = point_y(map, x, y);
     let within = is_inside(w, h, sx, sy);
-    let tx = held(within, sx);
-    let ty = held(within, sy);
+    let tx = or_zero(within, sx);
+    let ty = or_zero(within, sy);
     let x0 = numbers::floor_small(tx);
     let y0 = numbers::floor_small(ty);
     let at = index(y0 * numbers::to_f32_short(w) + x0);
@@ -110,7 +112,10 @@ pub fn places_row(
     y: usize,
     found: u32,
 ) -> u32
-    requires { ⌜ (w ≤ 4096) × (y < h) × (h ≤ 4096) × (y * w + w ≤ 16777216) × (w ≤ length (now spots)) × (w ≤ length (now across)) × (w ≤ length (now down)) × (y * w + w ≤ length (now marks)) × (found ≡ countOn (marksOf map w h) (y * w)) ⌝ }
+    requires { ⌜
+        (w ≤ 4096) × (y < h) × (h ≤ 4096) × (y * w + w ≤ 16777216) × RowScratch w (now spots) (now across) (now down)
+        × (y * w + w ≤ length (now marks)) × (found ≡ countOn (marksOf map w h) (y * w))
+        ⌝ }
     ensures { λ r. ⌜ PlacesOf map w h y (now (marks .entry)) (now (spots .exit)) (now (across .exit)) (now (down .exit)) (now (marks .exit)) r ⌝ }
 {
     let row = y * w;

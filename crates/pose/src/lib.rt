@@ -1,7 +1,7 @@
 // Poses and answers: what the passes carry, the pose in original pixels, what a call hands back, and the matrix of each.
 ghost use mathlib.Core.Path.{_≡_};
 ghost use Rattle.floats.specs.Bound.{Within};
-ghost use Rattle.pose.specs.Pose.{mapOf, posed, identity, isPose, turnedOf, posedMatrix, matrixOf, numberOf};
+ghost use Rattle.pose.specs.Pose.{affineFromThetaTxTy, unscaledOf, identity3, isPose, affineMatrix, posedMatrix, matrixOf, numberOf};
 use inverse::Matrix3;
 
 // The running pose.
@@ -41,7 +41,7 @@ pub struct Outcome {
 // The first two rows of a pose's matrix.
 pub fn affine_from_theta_tx_ty(pose: Pose) -> Map
     requires { ⌜ Within (pose .theta) 2 1 ⌝ }
-    ensures { λ r. ⌜ r ≡ mapOf pose ⌝ }
+    ensures { λ r. ⌜ r ≡ affineFromThetaTxTy pose ⌝ }
 {
     let ct = series::cos(pose.theta);
     let st = series::sin(pose.theta);
@@ -56,8 +56,8 @@ pub fn affine_from_theta_tx_ty(pose: Pose) -> Map
 }
 
 // The pose in original pixels, by the factors tw / w and th / h; 10 where its shift is not finite then.
-pub fn unscaled(at: Pose, rho: f32, sx: f32, sy: f32) -> Answer
-    ensures { λ r. ⌜ r ≡ posed sx sy at rho ⌝ }
+pub fn unscaled(sx: f32, sy: f32, at: Pose, rho: f32) -> Answer
+    ensures { λ r. ⌜ r ≡ unscaledOf sx sy at rho ⌝ }
 {
     let tx = at.tx / sx;
     let ty = at.ty / sy;
@@ -76,7 +76,7 @@ pub fn unscaled(at: Pose, rho: f32, sx: f32, sy: f32) -> Answer
 }
 
 fn identity3() -> Matrix3
-    ensures { λ r. ⌜ r ≡ identity ⌝ }
+    ensures { λ r. ⌜ r ≡ identity3 ⌝ }
 {
     Matrix3 {
         m00: 1.0,
@@ -94,7 +94,7 @@ fn identity3() -> Matrix3
 // [ct, -st, tx], [st, ct, ty], [0, 0, 1]
 fn turned(theta: f32, tx: f32, ty: f32) -> Matrix3
     requires { ⌜ Within theta 2 1 ⌝ }
-    ensures { λ r. ⌜ r ≡ turnedOf theta tx ty ⌝ }
+    ensures { λ r. ⌜ r ≡ affineMatrix theta tx ty ⌝ }
 {
     let map = affine_from_theta_tx_ty(Pose { theta, tx, ty });
     Matrix3 {

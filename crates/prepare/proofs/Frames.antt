@@ -13,6 +13,7 @@ use Rattle.lists.proofs.Grow.{length-tab, length-grid}
 use Rattle.lists.proofs.Cases.{pick-true, pick-false, pick-both}
 use Rattle.floats.specs.F32.{f32}
 use Rattle.resize.specs.Resize.{resizeOf}
+use Rattle.resize.proofs.Sizes.{length-resize}
 use Rattle.blur.specs.Blur.{rowsOf, columnsOf, blurOf}
 use Rattle.prepare.specs.Prepared.{grayOf, scaledOf, preparedOf}
 
@@ -33,10 +34,6 @@ unfolding columnsOf
 length-columns ksize w h tmp = length-grid w h _ ∙ mul-comm h w
 
 module _ (bytes : List ℕ) (w h tw th : ℕ) where
-  length-resized : length (resizeOf bytes w h tw th) ≡ tw * th
-  unfolding resizeOf
-  length-resized = length-grid tw th _ ∙ mul-comm th tw
-
   pub scaled-same : tw ≡ w → th ≡ h → scaledOf bytes w h tw th ≡ grayOf bytes
   unfolding scaledOf
   scaled-same p q = pick-true (eqb tw w) _ _ (eq-eqb tw w p) ∙ pick-true (eqb th h) _ _ (eq-eqb th h q)
@@ -55,7 +52,7 @@ module _ (bytes : List ℕ) (w h tw th : ℕ) where
   scaled-changed change = scaled-either (λ z. z ≡ resizeOf bytes w h tw th) (λ m n. absurd (change m n)) refl
 
   pub length-scaled : length bytes ≡ w * h → length (scaledOf bytes w h tw th) ≡ tw * th
-  length-scaled sized = scaled-either (λ z. length z ≡ tw * th) (λ m n. length-gray bytes ∙ sized ∙ sym (ap₂ (λ (a b : ℕ). a * b) m n)) length-resized
+  length-scaled sized = scaled-either (λ z. length z ≡ tw * th) (λ m n. length-gray bytes ∙ sized ∙ sym (ap₂ (λ (a b : ℕ). a * b) m n)) (length-resize bytes w h tw th)
 
   module _ (ksize : ℕ) where
     pub length-prepared : length bytes ≡ w * h → length (preparedOf bytes w h tw th ksize) ≡ tw * th

@@ -4,6 +4,7 @@ ghost use mathlib.Core.Path.{_≡_};
 ghost use Prim.Native.Nat.{_+_, _*_, _%_, _≤_};
 ghost use lib.ListN.{length};
 ghost use Rattle.lists.specs.Lists.{put, image, setImage};
+ghost use Rattle.lists.specs.Premises.{InRange, OddFilter};
 ghost use Rattle.blur.specs.Blur.{rowsOf, columnsOf};
 ghost use Rattle.prepare.specs.Prepared.{grayOf, scaledOf, preparedIn};
 
@@ -22,7 +23,7 @@ fn gray_u8_to_f32(img: &[u8], out: &mut [f32])
 
 // The front of `out` becomes the frame as f32, resized if a side changes.
 pub fn load(bytes: &[u8], w: usize, h: usize, tw: usize, th: usize, out: &mut [f32])
-    requires { ⌜ (1 ≤ w) × (w ≤ 4096) × (1 ≤ h) × (h ≤ 4096) × (1 ≤ tw) × (tw ≤ 4096) × (1 ≤ th) × (th ≤ 4096) × (length (now bytes) ≡ w * h) × (tw * th ≤ length (now out)) ⌝ }
+    requires { ⌜ InRange w h × InRange tw th × (length (now bytes) ≡ w * h) × (tw * th ≤ length (now out)) ⌝ }
     ensures { λ _. ⌜ now (out .exit) ≡ put (now (out .entry)) 0 (scaledOf (now (bytes .entry)) w h tw th) ⌝ }
 {
     if tw != w || th != h {
@@ -34,7 +35,7 @@ pub fn load(bytes: &[u8], w: usize, h: usize, tw: usize, th: usize, out: &mut [f
 
 // The image j of the work becomes the frame as f32, resized if a side changes.
 fn load_image(work: &mut [f32], j: usize, bytes: &[u8], w: usize, h: usize, tw: usize, th: usize)
-    requires { ⌜ (1 ≤ w) × (w ≤ 4096) × (1 ≤ h) × (h ≤ 4096) × (1 ≤ tw) × (tw ≤ 4096) × (1 ≤ th) × (th ≤ 4096) × (length (now bytes) ≡ w * h) × (j * (tw * th) + tw * th ≤ length (now work)) ⌝ }
+    requires { ⌜ InRange w h × InRange tw th × (length (now bytes) ≡ w * h) × (j * (tw * th) + tw * th ≤ length (now work)) ⌝ }
     ensures { λ _. ⌜ now (work .exit) ≡ setImage (tw * th) j (scaledOf (now (bytes .entry)) w h tw th) (now (work .entry)) ⌝ }
 {
     let at = j * (tw * th);
@@ -43,7 +44,7 @@ fn load_image(work: &mut [f32], j: usize, bytes: &[u8], w: usize, h: usize, tw: 
 
 // The image j of the work, blurred: its pass along the rows in the image j + 1, the blurred image in j + 2.
 fn blur_image(work: &mut [f32], j: usize, w: usize, h: usize, ksize: usize)
-    requires { ⌜ (1 ≤ w) × (w ≤ 4096) × (1 ≤ h) × (h ≤ 4096) × (3 ≤ ksize) × (ksize ≤ 31) × (ksize % 2 ≡ 1) × (j * (w * h) + 3 * (w * h) ≤ length (now work)) ⌝ }
+    requires { ⌜ InRange w h × (3 ≤ ksize) × OddFilter ksize × (j * (w * h) + 3 * (w * h) ≤ length (now work)) ⌝ }
     ensures { λ _. ⌜ now (work .exit) ≡
         setImage (w * h) (j + 2) (columnsOf ksize w h (rowsOf ksize w h (image (w * h) j (now (work .entry)))))
         (setImage (w * h) (j + 1) (rowsOf ksize w h (image (w * h) j (now (work .entry)))) (now (work .entry))) ⌝ }
@@ -63,7 +64,7 @@ pub fn prepare(
     th: usize,
     ksize: usize,
 )
-    requires { ⌜ (1 ≤ w) × (w ≤ 4096) × (1 ≤ h) × (h ≤ 4096) × (1 ≤ tw) × (tw ≤ 4096) × (1 ≤ th) × (th ≤ 4096) × (length (now bytes) ≡ w * h) × (j ≤ 9) × (12 * (tw * th) ≤ length (now work)) × (ksize % 2 ≡ 1) × (ksize ≤ 31) ⌝ }
+    requires { ⌜ InRange w h × InRange tw th × (length (now bytes) ≡ w * h) × (j ≤ 9) × (12 * (tw * th) ≤ length (now work)) × OddFilter ksize ⌝ }
     ensures { λ _. ⌜ now (work .exit) ≡ preparedIn j (now (bytes .entry)) w h tw th ksize (now (work .entry)) ⌝ }
 {
     if ksize == 1 {

@@ -1,5 +1,5 @@
 -- A code gives its number and its pass count back, and goes into 32 bits: a call's number is at most 13, and its passes are at most 1,000. Assumes nothing.
-use Prim.Native.Nat.{ℕ, _/_, _%_, _≤_, _<_}
+use Prim.Native.Nat.{ℕ, _≤_}
 use mathlib.Core.Path.{_≡_, ap, _∙_}
 use mathlib.Core.List.{List}
 use native.Mathlib.Nat.{le-trans}
@@ -12,7 +12,7 @@ use lib.ListN.{length}
 use Rattle.lists.proofs.Cases.{pick-where, pick-both}
 use Rattle.settings.specs.declared.EccConfig.{EccConfig}
 use Rattle.checks.proofs.Past.{past}
-use Rattle.pose.specs.Pose.{numberOf}
+use Rattle.pose.specs.Pose.{numberOf, toldOf}
 use Rattle.pose.specs.declared.Answer.{Answer}
 use Rattle.pose.specs.declared.Answer.the-variants.{Posed, Refused}
 use Rattle.pose.specs.declared.Outcome.{Outcome}
@@ -23,9 +23,9 @@ use Rattle.aligner.specs.Aligner.{entryOf, knownOf, answerOf, estimateOf}
 use Rattle.aligner.specs.declared.EccAligner.{EccAligner}
 use Rattle.aligner.specs.declared.Reply.{Reply}
 use Rattle.boundary.specs.Boundary.{fronted, codeOf, poseOf}
+use Rattle.quayhollow.specs.Told.{CodeTold, Small, OutcomesSmall}
 
--- THE LAW: number and passes are the code's remainder and quotient by 256
-pub code-told : (o : Outcome) → numberOf (o .answer) < 256 → (codeOf o % 256 ≡ numberOf (o .answer)) × (codeOf o / 256 ≡ o .passes)
+pub code-told : CodeTold
 unfolding codeOf
 code-told o h = (omega arith, omega arith)
 
@@ -33,17 +33,13 @@ code-told o h = (omega arith, omega arith)
 pub handed-on : {o o′ : Outcome} {n : ℕ} (xs : List Float) {ys : List Float} → o ≡ o′ → n ≡ codeOf o → ys ≡ fronted (poseOf (o .answer)) xs → (n ≡ codeOf o′) × (ys ≡ fronted (poseOf (o′ .answer)) xs)
 handed-on xs e c p = (c ∙ ap codeOf e, p ∙ ap (λ (o : Outcome). fronted (poseOf (o .answer)) xs) e)
 
--- a number of the table, and passes within their limit
-abbrev pub Small : Outcome → Type 0
-Small o = (numberOf (o .answer) ≤ 13) × (o .passes ≤ 1000)
-
 low : (a : Answer) → T (endsIn 1 10 a) → numberOf a ≤ 13
-unfolding endsIn numberOf
+unfolding endsIn toldOf
 low (Posed theta tx ty rho) t = lit≤ tt
 low (Refused n) t = le-trans (leb→le n 10 (and-r (leb 1 n) (leb n 10) t)) (lit≤ tt)
 
 refused : (n : ℕ) → n ≤ 13 → Small (record { passes = 0; answer = Refused n })
-unfolding numberOf
+unfolding toldOf
 refused n h = (h, lit≤ tt)
 
 pub aligned-small : (template input : List ℕ) (w h : ℕ) (cfg : EccConfig) (k m : ℕ) → Small (alignedOf template input w h cfg k m)
@@ -69,3 +65,6 @@ estimate-small a frame w h store k m =
 
     entry : Low (entryOf (length frame) w h (length store))
     entry = pick-both Low _ _ _ (lit≤ tt) (pick-both Low _ _ _ (lit≤ tt) (pick-both Low _ _ _ (pick-both Low _ _ _ (lit≤ tt) (lit≤ tt)) (lit≤ tt)))
+
+pub outcomes-small : OutcomesSmall
+outcomes-small = record { aligned = aligned-small; estimated = estimate-small }

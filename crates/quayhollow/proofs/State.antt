@@ -17,6 +17,7 @@ use Rattle.aligner.specs.declared.EccAligner.{EccAligner}
 use Rattle.aligner.specs.declared.Reply.{Reply}
 use Rattle.boundary.specs.Boundary.{fronted}
 use Rattle.quayhollow.specs.State.{rememberedOf, stateAfter}
+use Rattle.quayhollow.specs.Told.{StateTold}
 
 module _ (cfg : EccConfig) where
   -- the settings are those handed in
@@ -37,11 +38,10 @@ module _ (cfg : EccConfig) where
         let same : read (put s 0 l) ≡ read l = rw (at 0 (lit≤ tt), at 1 (lit≤ tt), at 2 (lit≤ tt)) in
         ap (rememberedOf cfg) (pick-false _ _ _ (le-ltb _ _ room)) ∙ pick-false _ (freshOf cfg) (read (put s 0 l)) (le-ltb _ _ long) ∙ same
 
-    -- THE LAW
-    pub state-told : (frame store : List ℕ) (w h k m : ℕ) →
+    told : (frame store : List ℕ) (w h k m : ℕ) →
         rememberedOf cfg (stateAfter (length frame) w h (length store) s) ≡ estimateOf (rememberedOf cfg s) frame w h store k m .aligner
     unfolding stateAfter estimateOf
-    state-told frame store w h k m = by (eqb (entryOf (length frame) w h (length store)) 0) refl
+    told frame store w h k m = by (eqb (entryOf (length frame) w h (length store)) 0) refl
       where
         by : (b : Bool) → eqb (entryOf (length frame) w h (length store)) 0 ≡ b →
             rememberedOf cfg (stateAfter (length frame) w h (length store) s) ≡ estimateOf (rememberedOf cfg s) frame w h store k m .aligner
@@ -51,3 +51,6 @@ module _ (cfg : EccConfig) where
             ∙ ap (λ (c : EccConfig). record { cfg = c; held = true; «prev_w» = w; «prev_h» = h }) (sym (remembered-cfg s))
             ∙ sym (ap (λ (r : Reply). r .aligner) (pick-true _ _ _ e))
         by false e = ap (rememberedOf cfg) (pick-false _ _ _ e) ∙ sym (ap (λ (r : Reply). r .aligner) (pick-false _ _ _ e))
+
+pub state-told : StateTold
+state-told = told

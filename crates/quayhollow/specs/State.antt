@@ -11,8 +11,8 @@ use Rattle.aligner.specs.declared.EccAligner.{EccAligner}
 use Rattle.boundary.specs.Boundary.{fronted}
 
 -- the store of a frame: w * h bytes; 0 where a side is above 4,096
-unfoldable pub storeOf : ℕ → ℕ → ℕ
-storeOf w h = pick (ltb 4096 w) 0 (pick (ltb 4096 h) 0 (w * h))
+unfoldable pub storeLengthOf : ℕ → ℕ → ℕ
+storeLengthOf w h = pick (ltb 4096 w) 0 (pick (ltb 4096 h) 0 (w * h))
 
 -- the aligner's record by its three numbers: whether a frame is held (0 for no, any other for yes), and its sides. In fewer than three nothing is remembered
 unfoldable pub rememberedOf : EccConfig → List ℕ → EccAligner

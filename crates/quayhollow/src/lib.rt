@@ -8,11 +8,12 @@ ghost use Prim.Native.Nat.{_*_};
 ghost use lib.ListN.{length};
 ghost use Rattle.checks.specs.Checks.{sizeOf, checkOf};
 ghost use Rattle.pose.specs.Pose.{matrixOf};
-ghost use Rattle.alignment.specs.Aligned.{alignedOf, workAfter, marksAfter};
+ghost use Rattle.alignment.specs.Aligned.{alignedOf, Leaves};
 ghost use Rattle.aligner.specs.Aligner.{estimateOf, storeAfter, refusedOf};
 ghost use Rattle.driver.specs.Pins.{pinsOf};
-ghost use Rattle.boundary.specs.Boundary.{configOf, pixelsOf, fronted, codeOf, poseOf, handedOf, entriesOf, threeOf};
-ghost use Rattle.quayhollow.specs.State.{storeOf, rememberedOf, stateAfter};
+ghost use Rattle.inverse.specs.Inverse.{entriesOf};
+ghost use Rattle.boundary.specs.Boundary.{configOf, pixelCountOf, fronted, codeOf, poseOf, handedOf, threeOf};
+ghost use Rattle.quayhollow.specs.State.{storeLengthOf, rememberedOf, stateAfter};
 use aligner::EccAligner;
 use settings::EccConfig;
 
@@ -55,21 +56,21 @@ pub extern "C" fn quayhollow_version() -> u32
 
 #[no_mangle]
 pub extern "C" fn quayhollow_work_len(w: usize, h: usize, edge: usize) -> usize
-    ensures { λ r. ⌜ r ≡ 12 * pixelsOf w h edge ⌝ }
+    ensures { λ r. ⌜ r ≡ 12 * pixelCountOf w h edge ⌝ }
 {
     12 * boundary::pixels(w, h, edge)
 }
 
 #[no_mangle]
 pub extern "C" fn quayhollow_marks_len(w: usize, h: usize, edge: usize) -> usize
-    ensures { λ r. ⌜ r ≡ pixelsOf w h edge ⌝ }
+    ensures { λ r. ⌜ r ≡ pixelCountOf w h edge ⌝ }
 {
     boundary::pixels(w, h, edge)
 }
 
 #[no_mangle]
 pub extern "C" fn quayhollow_store_len(w: usize, h: usize) -> usize
-    ensures { λ r. ⌜ r ≡ storeOf w h ⌝ }
+    ensures { λ r. ⌜ r ≡ storeLengthOf w h ⌝ }
 {
     if w > EccConfig::MOST_SIDE {
         return 0;
@@ -95,8 +96,16 @@ pub extern "C" fn quayhollow_align(
     marks: &mut [u8],
     pose: &mut [f32],
 ) -> u32
-    ensures { λ r. ⌜ (let o = alignedOf (now (template .entry)) (now (input .entry)) w h (configOf eps «max_iter» filter edge) (length (now (work .entry))) (length (now (marks .entry))) in (r ≡ codeOf o) × (now (pose .exit) ≡ fronted (poseOf (o .answer)) (now (pose .entry)))) ⌝ }
-    ensures { λ r. ⌜ (let cfg = configOf eps «max_iter» filter edge in let number = checkOf (length (now (template .entry))) (length (now (input .entry))) w h cfg (length (now (work .entry))) (length (now (marks .entry))) in (now (work .exit) ≡ workAfter number (sizeOf cfg w h) (now (work .entry))) × (now (marks .exit) ≡ marksAfter number (sizeOf cfg w h) (now (marks .entry)))) ⌝ }
+    ensures { λ r. ⌜
+        (let cfg = configOf eps «max_iter» filter edge in
+        let o = alignedOf (now (template .entry)) (now (input .entry)) w h cfg (length (now (work .entry))) (length (now (marks .entry))) in
+        (r ≡ codeOf o) × (now (pose .exit) ≡ fronted (poseOf (o .answer)) (now (pose .entry))))
+        ⌝ }
+    ensures { λ r. ⌜
+        (let cfg = configOf eps «max_iter» filter edge in
+        let number = checkOf (length (now (template .entry))) (length (now (input .entry))) w h cfg (length (now (work .entry))) (length (now (marks .entry))) in
+        Leaves number (sizeOf cfg w h) (now (work .entry)) (now (work .exit)) (now (marks .entry)) (now (marks .exit)))
+        ⌝ }
 {
     let cfg = boundary::config(eps, max_iter, filter, edge);
     let o = alignment::find_transform_ecc_euclidean(template, input, w, h, cfg, work, marks);
@@ -143,9 +152,20 @@ pub extern "C" fn quayhollow_estimate(
     marks: &mut [u8],
     pose: &mut [f32],
 ) -> u32
-    ensures { λ r. ⌜ (let o = estimateOf (rememberedOf (configOf eps «max_iter» filter edge) (now (state .entry))) (now (frame .entry)) w h (now (store .entry)) (length (now (work .entry))) (length (now (marks .entry))) .outcome in (r ≡ codeOf o) × (now (pose .exit) ≡ fronted (poseOf (o .answer)) (now (pose .entry)))) ⌝ }
-    ensures { λ r. ⌜ (now (state .exit) ≡ stateAfter (length (now (frame .entry))) w h (length (now (store .entry))) (now (state .entry))) × (now (store .exit) ≡ storeAfter (now (frame .entry)) w h (now (store .entry))) ⌝ }
-    ensures { λ r. ⌜ (let cfg = configOf eps «max_iter» filter edge in let number = refusedOf (rememberedOf cfg (now (state .entry))) (length (now (frame .entry))) w h (length (now (store .entry))) (length (now (work .entry))) (length (now (marks .entry))) in (now (work .exit) ≡ workAfter number (sizeOf cfg w h) (now (work .entry))) × (now (marks .exit) ≡ marksAfter number (sizeOf cfg w h) (now (marks .entry)))) ⌝ }
+    ensures { λ r. ⌜
+        (let before = rememberedOf (configOf eps «max_iter» filter edge) (now (state .entry)) in
+        let o = estimateOf before (now (frame .entry)) w h (now (store .entry)) (length (now (work .entry))) (length (now (marks .entry))) .outcome in
+        (r ≡ codeOf o) × (now (pose .exit) ≡ fronted (poseOf (o .answer)) (now (pose .entry))))
+        ⌝ }
+    ensures { λ r. ⌜
+        (now (state .exit) ≡ stateAfter (length (now (frame .entry))) w h (length (now (store .entry))) (now (state .entry)))
+        × (now (store .exit) ≡ storeAfter (now (frame .entry)) w h (now (store .entry)))
+        ⌝ }
+    ensures { λ r. ⌜
+        (let cfg = configOf eps «max_iter» filter edge in
+        let number = refusedOf (rememberedOf cfg (now (state .entry))) (length (now (frame .entry))) w h (length (now (store .entry))) (length (now (work .entry))) (length (now (marks .entry))) in
+        Leaves number (sizeOf cfg w h) (now (work .entry)) (now (work .exit)) (now (marks .entry)) (now (marks .exit)))
+        ⌝ }
 {
     let cfg = boundary::config(eps, max_iter, filter, edge);
     let before = remembered(cfg, state);

@@ -1,16 +1,19 @@
 // Records are read from a file descriptor, and a line is printed for each frame; at the end `done` or `cut`, and the count of frames.
 //
-// What happens at each record is crate stream's; what a line says is crate text's. Here bytes are read into a buffer and handed on, and
-// lines are written: what waits is written before each read, so that every line is out before the program waits.
+// What happens at each record is crate stream's; what a line says is crate text's; the two calls of the system are crate ports'. Here bytes are read
+// into a buffer and handed on, and lines are written: what waits is written before each read, so that every line is out before the program waits.
+// The contract of `log` says what its turns read and hand to each write; that this is the text of the whole stream is crate printed's theorem.
 ghost use mathlib.Core.Path.{_≡_};
 ghost use Prim.Native.Nat.{_+_, _-_, _≤_, _<_};
 ghost use lib.ListN.{length, take, drop};
 ghost use Rattle.lists.specs.Lists.{put};
 ghost use Rattle.text.specs.Text.{Wrote};
-ghost use Rattle.stream.specs.Memory.{storeOf};
+ghost use Rattle.ports.specs.Ports.{Handed};
+ghost use Rattle.stream.specs.Memory.{steppedStore};
 ghost use Rattle.stream.specs.Stream.{stepOf};
-ghost use Rattle.reader.specs.Run.{Good, Next, Took, Followed, Turned, Place, pending, textOf, lastOf};
-use libc::STDOUT_FILENO;
+ghost use Rattle.reader.specs.Run.{Good, Next, Took, Followed, Turned, pending, Short, pushedOf, lineAt};
+ghost use Rattle.reader.specs.Text.{textOf, lastOf};
+ghost use Rattle.reader.specs.Turns.{Sizes, Ran, Closed, Finished, Logged};
 use lines::Line;
 use stream::End;
 use stream::Event;
@@ -19,12 +22,12 @@ use stream::Step;
 
 // The bytes from at to end of the input's buffer are still to be used, and the first put bytes of the output's buffer are still to be
 // written.
-struct Run {
-    at: usize,
-    end: usize,
-    put: usize,
-    is_going: bool,
-    state: State,
+pub struct Run {
+    pub at: usize,
+    pub end: usize,
+    pub put: usize,
+    pub is_going: bool,
+    pub state: State,
 }
 
 // Moves the bytes from at to end to the front, and answers how many they are.
@@ -44,11 +47,10 @@ fn slide(buf: &mut [u8], at: usize, end: usize) -> usize
 // Writes what waits if little room is left, and answers where the next line goes.
 fn room(out: &[u8], waits: usize) -> usize
     requires { ⌜ (waits ≤ length (now out)) × (100 ≤ length (now out)) ⌝ }
-    ensures { λ r. ⌜ (r + 100 ≤ length (now (out .entry))) × Place waits r ⌝ }
+    ensures { λ r. ⌜ (r + 100 ≤ length (now (out .entry))) × (r ≡ lineAt (now (out .entry)) waits) × Handed (pushedOf (now (out .entry)) waits) ⌝ }
 {
     if out.len() - waits < 100 {
-        io::write_all(STDOUT_FILENO, &out[..waits]);
-        0
+        ports::flush(out, waits)
     } else {
         waits
     }
@@ -73,31 +75,23 @@ fn put_last(out: &mut [u8], at: usize, end: End) -> usize
     }
 }
 
-// Writes what waits, and the last line.
-fn close(out: &mut [u8], waits: usize, end: End)
-    requires { ⌜ (waits ≤ length (now out)) × (100 ≤ length (now out)) ⌝ }
-{
-    let here = room(out, waits);
-    let there = put_last(out, here, end);
-    io::write_all(STDOUT_FILENO, &out[..there]);
-}
-
-// Reads once, into the room behind the bytes that are still to be used. The run ends if nothing comes.
+// Writes what waits, then reads once, into the room behind the bytes that are still to be used. The run ends if nothing comes.
 fn refill(input: i32, run: Run, buf: &mut [u8], out: &[u8]) -> Run
-    requires { ⌜ Good run (length (now buf)) (length (now out)) ⌝ }
-    ensures { λ r. ⌜ Next run r (length (now (buf .entry))) (length (now (out .entry))) × Took run r (now (buf .entry)) (now (buf .exit)) ⌝ }
+    requires { ⌜ Good run (length (now buf)) (length (now out)) × (run .end - run .at < length (now buf)) ⌝ }
+    ensures { λ r. ⌜
+        Next run r (length (now (buf .entry))) (length (now (out .entry))) × Took run r (now (buf .entry)) (now (buf .exit))
+        × Handed (take (run .put) (now (out .entry)))
+        ⌝ }
 {
-    let put = run.put;
     let state = run.state;
     let n = slide(buf, run.at, run.end);
-    io::write_all(STDOUT_FILENO, &out[..put]);
-    let got = libc::read(input, &mut buf[n..]);
-    let k = io::count(got, &buf[n..]);
+    let put = ports::flush(out, run.put);
+    let k = ports::fetch(input, buf, n);
     let end = n + k;
     Run {
         at: 0,
         end,
-        put: 0,
+        put,
         is_going: k > 0,
         state,
     }
@@ -106,8 +100,11 @@ fn refill(input: i32, run: Run, buf: &mut [u8], out: &[u8]) -> Run
 // One step of the stream over the bytes that are still to be used.
 fn look(run: Run, buf: &[u8], store: &mut [u8], work: &mut [f32], marks: &mut [u8]) -> Step
     requires { ⌜ (run .at ≤ run .end) × (run .end ≤ length (now buf)) × (run .state .frames < 18446744073709551615) ⌝ }
-    ensures { λ r. ⌜ (r ≡ stepOf (run .state) (pending run (now (buf .entry))) (now (store .entry)) (length (now (work .entry))) (length (now (marks .entry)))) × (r .used ≤ run .end - run .at) × (r .state .frames ≤ run .state .frames + 1) ⌝ }
-    ensures { λ r. ⌜ now (store .exit) ≡ storeOf (run .state) (pending run (now (buf .entry))) (now (store .entry)) ⌝ }
+    ensures { λ r. ⌜
+        (r ≡ stepOf (run .state) (pending run (now (buf .entry))) (now (store .entry)) (length (now (work .entry)))
+        (length (now (marks .entry)))) × Short run r
+        ⌝ }
+    ensures { λ r. ⌜ now (store .exit) ≡ steppedStore (run .state) (pending run (now (buf .entry))) (now (store .entry)) ⌝ }
 {
     let at = run.at;
     let end = run.end;
@@ -116,8 +113,11 @@ fn look(run: Run, buf: &[u8], store: &mut [u8], work: &mut [f32], marks: &mut [u
 
 // What comes of a step: nothing, a read, a line, or the end.
 fn follow(input: i32, run: Run, step: Step, buf: &mut [u8], out: &mut [u8]) -> Run
-    requires { ⌜ Good run (length (now buf)) (length (now out)) × (step .used ≤ run .end - run .at) × (step .state .frames ≤ run .state .frames + 1) ⌝ }
-    ensures { λ r. ⌜ Next run r (length (now (buf .entry))) (length (now (out .entry))) × Followed run r step (now (buf .entry)) (now (buf .exit)) (now (out .entry)) (now (out .exit)) ⌝ }
+    requires { ⌜ Good run (length (now buf)) (length (now out)) × Short run step ⌝ }
+    ensures { λ r. ⌜
+        Next run r (length (now (buf .entry))) (length (now (out .entry)))
+        × Followed run r step (now (buf .entry)) (now (buf .exit)) (now (out .entry)) (now (out .exit))
+        ⌝ }
 {
     let end = run.end;
     let put = run.put;
@@ -165,14 +165,81 @@ fn turn(
     marks: &mut [u8],
 ) -> Run
     requires { ⌜ Good run (length (now buf)) (length (now out)) ⌝ }
-    ensures { λ r. ⌜ Next run r (length (now (buf .entry))) (length (now (out .entry))) × Turned run r (now (buf .entry)) (now (buf .exit)) (now (out .entry)) (now (out .exit)) (now (store .entry)) (now (store .exit)) (length (now (work .entry))) (length (now (marks .entry))) ⌝ }
+    ensures { λ r. ⌜
+        Next run r (length (now (buf .entry))) (length (now (out .entry)))
+        × Turned run r (now (buf .entry)) (now (buf .exit)) (now (out .entry)) (now (out .exit)) (now (store .entry)) (now (store .exit))
+        (length (now (work .entry))) (length (now (marks .entry)))
+        ⌝ }
 {
     let step = look(run, buf, store, work, marks);
     follow(input, run, step, buf, out)
 }
 
+// Turn after turn, from the first state, as long as the run goes on.
+fn turns(
+    input: i32,
+    buf: &mut [u8],
+    out: &mut [u8],
+    store: &mut [u8],
+    work: &mut [f32],
+    marks: &mut [u8],
+) -> Run
+    requires { ⌜ Sizes (length (now buf)) (length (now out)) (length (now store)) (length (now work)) (length (now marks)) ⌝ }
+    ensures { λ r. ⌜
+        (r .at ≤ r .end) × (r .put ≤ length (now (out .entry)))
+        × Ran 12288 1024 (now (buf .entry)) (now (out .entry)) (now (store .entry)) r (now (buf .exit)) (now (out .exit))
+        (now (store .exit))
+        ⌝ }
+{
+    let mut run = Run {
+        at: 0,
+        end: 0,
+        put: 0,
+        is_going: true,
+        state: stream::fresh(),
+    };
+    // A proved loop has to end, and nothing says that the input does: the turns are counted down from a number that no run uses up.
+    let mut left = u64::MAX;
+    while left > 0 && run.is_going {
+        run = turn(input, run, buf, out, store, work, marks);
+        left -= 1;
+    }
+    run
+}
+
+// Puts the last line behind what waits, and answers how many bytes wait with it.
+fn close(run: Run, out: &mut [u8]) -> usize
+    requires { ⌜ (run .at ≤ run .end) × (run .put ≤ length (now out)) × (100 ≤ length (now out)) ⌝ }
+    ensures { λ r. ⌜ (r ≤ length (now (out .entry))) × Closed run (now (out .entry)) (now (out .exit)) r ⌝ }
+{
+    let end = stream::finish(run.state, run.end - run.at);
+    let here = room(out, run.put);
+    put_last(out, here, end)
+}
+
+// The whole stream, but for the last write: answers how many bytes then wait.
+fn whole(
+    input: i32,
+    buf: &mut [u8],
+    out: &mut [u8],
+    store: &mut [u8],
+    work: &mut [f32],
+    marks: &mut [u8],
+) -> usize
+    requires { ⌜ Sizes (length (now buf)) (length (now out)) (length (now store)) (length (now work)) (length (now marks)) ⌝ }
+    ensures { λ r. ⌜
+        (r ≤ length (now (out .entry)))
+        × Finished 12288 1024 (now (buf .entry)) (now (out .entry)) (now (store .entry)) (now (out .exit)) r
+        ⌝ }
+{
+    let run = turns(input, buf, out, store, work, marks);
+    close(run, out)
+}
+
 // The whole stream.
-pub fn log(input: i32) {
+pub fn log(input: i32)
+    ensures { λ r. ⌜ Logged ⌝ }
+{
     let mut bytes = io::large_buffer();
     let mut text = io::large_buffer();
     let mut held = [0u8; 1024];
@@ -183,18 +250,6 @@ pub fn log(input: i32) {
     let store: &mut [u8] = &mut held;
     let work: &mut [f32] = &mut floats;
     let marks: &mut [u8] = &mut marked;
-    let mut run = Run {
-        at: 0,
-        end: 0,
-        put: 0,
-        is_going: true,
-        state: stream::fresh(),
-    };
-    // A proved loop has to end, and nothing says that the input does: the turns are counted down from a number that no run uses up.
-    let mut turns = u64::MAX;
-    while turns > 0 && run.is_going {
-        run = turn(input, run, buf, out, store, work, marks);
-        turns -= 1;
-    }
-    close(out, run.put, stream::finish(run.state, run.end - run.at));
+    let waits = whole(input, buf, out, store, work, marks);
+    ports::flush(out, waits);
 }

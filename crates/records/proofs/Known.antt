@@ -1,6 +1,6 @@
 -- What the bytes at hand are known by: a record that is read lies within them, and where more are wanted, they are few. Assumes nothing.
 use mathlib.Core.List.{List}
-use Prim.Native.Nat.{ℕ, zero-le, _+_, _-_, _≤_, _<_}
+use Prim.Native.Nat.{ℕ, _+_, _-_, _≤_, _<_}
 use native.Mathlib.Omega.{arith}
 use borrow.Author.Tests.{ltb-true, ltb-false}
 use lib.Dec.{ltb, eqb}
@@ -9,7 +9,7 @@ use Rattle.lists.specs.Marked.{pick}
 use Rattle.lists.proofs.Cases.{either}
 use Rattle.records.specs.declared.Record.{Record}
 use Rattle.records.specs.declared.Record.the-variants.{More, Settings, Frame, Large, Other, Broken}
-use Rattle.records.specs.Reading.{halfAt, wordAt, configAt, settingsOf, frameOf, bodyOf, nextOf, sizeOf}
+use Rattle.records.specs.Reading.{halfAt, wordAt, configAt, settingsOf, frameOf, bodyOf, nextOf}
 
 -- what each record says of the bytes at whose start it stands
 abbrev pub Known : List ℕ → Record → Type 0
@@ -56,16 +56,3 @@ known s =
     (λ a. either (Known s) (ltb (wordAt s 0) 2) Broken tail (λ b. ltb-false (length s) 4 a)
     (λ b. either (Known s) (ltb (length s) 6) More body (λ d. omega (arith, ltb-true (length s) 6 d))
     (λ d. known-body s (ltb-false (length s) 6 d) (halfAt s 4) (wordAt s 0 - 2))))
-
--- a record lies within the bytes
-pub within : (s : List ℕ) → sizeOf (nextOf s) ≤ length s
-unfolding sizeOf
-within s = size (nextOf s) (known s)
-  where
-    size : (r : Record) → Known s r → sizeOf r ≤ length s
-    size More k = zero-le
-    size (Settings cfg) k = k
-    size (Frame w h n) k = k .0
-    size (Large n) k = k .0
-    size (Other n) k = k
-    size Broken k = zero-le

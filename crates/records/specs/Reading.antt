@@ -45,12 +45,3 @@ nextOf s =
     pick (ltb (length s) 4) More
     (pick (ltb (wordAt s 0) 2) Broken
     (pick (ltb (length s) 6) More (bodyOf s (halfAt s 4) (wordAt s 0 - 2))))
-
--- how many of the bytes a record takes up: of one that is read over, those before its body
-unfoldable pub sizeOf : Record → ℕ
-sizeOf More = 0
-sizeOf (Settings cfg) = 20
-sizeOf (Frame w h n) = 10 + n
-sizeOf (Large n) = 6
-sizeOf (Other n) = 6
-sizeOf Broken = 0

@@ -4,7 +4,7 @@
 // they test (tools/vectors says how each list is made).
 use libc::STDIN_FILENO;
 use libc::STDOUT_FILENO;
-use vectors::Line;
+use words::Line;
 
 fn agrees(kind: u64, words: &[u64]) -> bool {
     if kind > 25 {

@@ -17,7 +17,7 @@ use Rattle.floats.specs.F32.{_⊕_, _⊖_, _⊗_, f32, 1f}
 use Rattle.floats.proofs.Within.{Signed, within-more, add-within, sub-within, mul-within, rep-down, rep-up, rep-pow}
 use Rattle.floats.proofs.Exactly.{whole-is, value-over, value-within, one-value, whole-within}
 use Rattle.floats.proofs.Fraction.{fraction}
-use Rattle.resize.specs.Resize.{placeOf, tapOf, blendOf, byteOf, sampleOf, resizeOf}
+use Rattle.resize.specs.Resize.{placeOf, tapOf, lerpOf, byteOf, bilinearOf, resizeOf}
 use Rattle.numbers.proofs.Cast.{cast-negative}
 use Rattle.resize.proofs.Inside.{Placed, before-first, inside, placed, place-fits, under, first-cast}
 
@@ -55,8 +55,8 @@ weight-within src dst d S S' D' l = rw (first-cast src dst d) (weight-placed (pl
 
 -- ---- blends
 
-pub blend-within : (w a b : Float) (k : ℕ) → k ≤ 101 → Within w 1 1 → Within a (2 ^ k) 1 → Within b (2 ^ k) 1 → Within (blendOf w a b) (2 ^ (k + 2)) 1
-unfolding blendOf
+pub blend-within : (w a b : Float) (k : ℕ) → k ≤ 101 → Within w 1 1 → Within a (2 ^ k) 1 → Within b (2 ^ k) 1 → Within (lerpOf w a b) (2 ^ (k + 2)) 1
+unfolding lerpOf
 blend-within w a b k K hw ha hb =
     let v = 1f ⊖ w in
     let hv : Within v 2 1 = sub-within binary32 1f w 1 1 1 (rep-down 2 0 (lit≤ tt) (lit≤ tt)) (value-within 1f false 1 1 one-value) hw in
@@ -74,12 +74,12 @@ module _ (src : List ℕ) (k : ℕ) (K : k ≤ 16) (below : (i : ℕ) → getD s
   unfolding byteOf
   gray-within x y = whole-within (getD src (y * w + x) 0) k (omega arith) (below (y * w + x))
 
-  pub sample-within : (x y : ℕ) → x < tw → y < th → Within (sampleOf src w (tapOf w tw x) (tapOf h th y)) (2 ^ (k + 4)) 1
-  unfolding sampleOf
+  pub sample-within : (x y : ℕ) → x < tw → y < th → Within (bilinearOf src w (tapOf w tw x) (tapOf h th y)) (2 ^ (k + 4)) 1
+  unfolding bilinearOf
   sample-within x y lx ly =
       let tx = tapOf w tw x in
       let ty = tapOf h th y in
-      let row : ℕ → Float = λ j. blendOf (tx .weight) (byteOf src w (tx .first) j) (byteOf src w (tx .next) j) in
+      let row : ℕ → Float = λ j. lerpOf (tx .weight) (byteOf src w (tx .first) j) (byteOf src w (tx .next) j) in
       let each : (j : ℕ) → Within (row j) (2 ^ (k + 2)) 1 = λ j. blend-within (tx .weight) (byteOf src w (tx .first) j) (byteOf src w (tx .next) j) k (omega arith) (weight-within w tw x W W' TW' lx) (gray-within (tx .first) j) (gray-within (tx .next) j) in
       let four : k + 2 + 2 ≡ k + 4 = omega arith in
       rw four at (blend-within (ty .weight) (row (ty .first)) (row (ty .next)) (k + 2) (omega arith) (weight-within h th y H H' TH' ly) (each (ty .first)) (each (ty .next)))
@@ -88,6 +88,6 @@ module _ (src : List ℕ) (k : ℕ) (K : k ≤ 16) (below : (i : ℕ) → getD s
   pub resize-within : 0 < tw → (i : ℕ) (z : Float) → i < tw * th → Within (getD (resizeOf src w h tw th) i z) (2 ^ (k + 4)) 1
   unfolding resizeOf
   resize-within p i z l =
-      let g : ℕ → ℕ → Float = λ x y. sampleOf src w (tapOf w tw x) (tapOf h th y) in
+      let g : ℕ → ℕ → Float = λ x y. bilinearOf src w (tapOf w tw x) (tapOf h th y) in
       let q : i < th * tw = omega (arith, mul-comm tw th) in
       rw (grid-tab tw th g, getD-tab (th * tw) i (λ j. g (j % tw) (j / tw)) z q) (sample-within (i % tw) (i / tw) (mod-lt i p) (div-lt-iff-lt-mul p .1 q))

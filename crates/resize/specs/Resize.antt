@@ -27,15 +27,15 @@ unfoldable pub byteOf : List ℕ → ℕ → ℕ → ℕ → Float
 byteOf src w x y = f32 (getD src (y * w + x) 0)
 
 -- (1.0 - w) * a + w * b
-unfoldable pub blendOf : Float → Float → Float → Float
-blendOf w a b = (1f ⊖ w) ⊗ a ⊕ w ⊗ b
+unfoldable pub lerpOf : Float → Float → Float → Float
+lerpOf w a b = (1f ⊖ w) ⊗ a ⊕ w ⊗ b
 
 -- (1.0 - wy) * ((1.0 - wx) * p00 + wx * p01) + wy * ((1.0 - wx) * p10 + wx * p11)
-unfoldable pub sampleOf : List ℕ → ℕ → Tap → Tap → Float
-sampleOf src w tx ty =
-    blendOf (ty .weight) (blendOf (tx .weight) (byteOf src w (tx .first) (ty .first)) (byteOf src w (tx .next) (ty .first)))
-    (blendOf (tx .weight) (byteOf src w (tx .first) (ty .next)) (byteOf src w (tx .next) (ty .next)))
+unfoldable pub bilinearOf : List ℕ → ℕ → Tap → Tap → Float
+bilinearOf src w tx ty =
+    lerpOf (ty .weight) (lerpOf (tx .weight) (byteOf src w (tx .first) (ty .first)) (byteOf src w (tx .next) (ty .first)))
+    (lerpOf (tx .weight) (byteOf src w (tx .first) (ty .next)) (byteOf src w (tx .next) (ty .next)))
 
 -- resize_bilinear(src, src_w, src_h, dst_w, dst_h)
 unfoldable pub resizeOf : List ℕ → ℕ → ℕ → ℕ → ℕ → List Float
-resizeOf src w h tw th = grid tw th (λ x y. sampleOf src w (tapOf w tw x) (tapOf h th y))
+resizeOf src w h tw th = grid tw th (λ x y. bilinearOf src w (tapOf w tw x) (tapOf h th y))

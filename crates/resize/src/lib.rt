@@ -4,8 +4,9 @@ ghost use mathlib.Core.Path.{_≡_};
 ghost use Prim.Native.Nat.{_+_, _-_, _*_, _≤_, _<_, min};
 ghost use lib.ListN.{length};
 ghost use Rattle.lists.specs.Lists.{tab, put};
+ghost use Rattle.lists.specs.Premises.{InRange};
 ghost use Rattle.floats.specs.F32.{f32};
-ghost use Rattle.resize.specs.Resize.{placeOf, tapOf, byteOf, blendOf, sampleOf, resizeOf};
+ghost use Rattle.resize.specs.Resize.{placeOf, tapOf, byteOf, lerpOf, bilinearOf, resizeOf};
 ghost use Rattle.resize.specs.Taps.{Taps};
 
 // Two indices of a side, and the weight of the second.
@@ -87,7 +88,7 @@ fn gray(src: &[u8], w: usize, x: usize, y: usize) -> f32
 
 // From a to b, by the weight of b.
 fn blend(w: f32, a: f32, b: f32) -> f32
-    ensures { λ r. ⌜ r ≡ blendOf w a b ⌝ }
+    ensures { λ r. ⌜ r ≡ lerpOf w a b ⌝ }
 {
     (1.0 - w) * a + w * b
 }
@@ -95,7 +96,7 @@ fn blend(w: f32, a: f32, b: f32) -> f32
 // The four pixels of two taps, blended.
 fn sample(src: &[u8], w: usize, tx: Tap, ty: Tap) -> f32
     requires { ⌜ (tx .first < w) × (tx .next < w) × (ty .first * w + w ≤ length (now src)) × (ty .next * w + w ≤ length (now src)) ⌝ }
-    ensures { λ r. ⌜ r ≡ sampleOf (now (src .entry)) w tx ty ⌝ }
+    ensures { λ r. ⌜ r ≡ bilinearOf (now (src .entry)) w tx ty ⌝ }
 {
     let above = blend(
         tx.weight,
@@ -121,8 +122,15 @@ fn resize_row(
     out: &mut [f32],
     at: usize,
 )
-    requires { ⌜ (1 ≤ «src_w») × («src_w» ≤ 4096) × («dst_w» ≤ 4096) × Taps «src_w» «dst_w» (now firsts) (now weights) × (ty .first * «src_w» + «src_w» ≤ length (now src)) × (ty .next * «src_w» + «src_w» ≤ length (now src)) × (at + «dst_w» ≤ length (now out)) ⌝ }
-    ensures { λ _. ⌜ now (out .exit) ≡ put (now (out .entry)) at (tab «dst_w» (λ x. sampleOf (now (src .entry)) «src_w» (tapOf «src_w» «dst_w» x) ty)) ⌝ }
+    requires { ⌜
+        (1 ≤ «src_w») × («src_w» ≤ 4096) × («dst_w» ≤ 4096) × Taps «src_w» «dst_w» (now firsts) (now weights)
+        × (ty .first * «src_w» + «src_w» ≤ length (now src)) × (ty .next * «src_w» + «src_w» ≤ length (now src))
+        × (at + «dst_w» ≤ length (now out))
+        ⌝ }
+    ensures { λ _. ⌜
+        now (out .exit) ≡ put (now (out .entry)) at
+        (tab «dst_w» (λ x. bilinearOf (now (src .entry)) «src_w» (tapOf «src_w» «dst_w» x) ty))
+        ⌝ }
 {
     let mut x = 0;
     while x < dst_w {
@@ -144,7 +152,10 @@ fn resize_rows(
     weights: &[f32],
     out: &mut [f32],
 )
-    requires { ⌜ (1 ≤ «src_w») × («src_w» ≤ 4096) × (1 ≤ «src_h») × («src_h» ≤ 4096) × («dst_w» ≤ 4096) × («dst_h» ≤ 4096) × («src_w» * «src_h» ≤ length (now src)) × («dst_w» * «dst_h» ≤ length (now out)) × Taps «src_w» «dst_w» (now firsts) (now weights) ⌝ }
+    requires { ⌜
+        InRange «src_w» «src_h» × («dst_w» ≤ 4096) × («dst_h» ≤ 4096) × («src_w» * «src_h» ≤ length (now src))
+        × («dst_w» * «dst_h» ≤ length (now out)) × Taps «src_w» «dst_w» (now firsts) (now weights)
+        ⌝ }
     ensures { λ _. ⌜ now (out .exit) ≡ put (now (out .entry)) 0 (resizeOf (now (src .entry)) «src_w» «src_h» «dst_w» «dst_h») ⌝ }
 {
     let mut y = 0;
@@ -164,7 +175,10 @@ pub fn resize_bilinear(
     dst_h: usize,
     out: &mut [f32],
 )
-    requires { ⌜ (1 ≤ «src_w») × («src_w» ≤ 4096) × (1 ≤ «src_h») × («src_h» ≤ 4096) × (1 ≤ «dst_w») × («dst_w» ≤ 4096) × (1 ≤ «dst_h») × («dst_h» ≤ 4096) × («src_w» * «src_h» ≤ length (now src)) × («dst_w» * «dst_h» ≤ length (now out)) ⌝ }
+    requires { ⌜
+        InRange «src_w» «src_h» × InRange «dst_w» «dst_h» × («src_w» * «src_h» ≤ length (now src))
+        × («dst_w» * «dst_h» ≤ length (now out))
+        ⌝ }
     ensures { λ _. ⌜ now (out .exit) ≡ put (now (out .entry)) 0 (resizeOf (now (src .entry)) «src_w» «src_h» «dst_w» «dst_h») ⌝ }
 {
     let mut firsts = [0usize; 4096];

@@ -1,7 +1,7 @@
 -- From a bit pattern to that of its root, as the code goes: m * 2 ^ k is 2 ^ 24 times the value in units of 2 ^ -149, with m of 24 binary digits; the whole root of
 -- an m shifted to 49 or 50 digits has 25 digits, and half of it, rounded up, is the answer's 24. Assumes nothing.
 use mathlib.Core.Path.{_≡_, refl, sym, ap, _∙_, subst}
-use mathlib.Core.Bool.{true, false, cond}
+use mathlib.Core.Bool.{true, false}
 use Prim.Native.Nat.{ℕ, zero, suc, _+_, _-_, _*_, _/_, _%_, _^_, _≤_, _<_}
 use native.Mathlib.Nat.{mul-assoc, mul-left-comm, mul-le-mul, mul-mod-right}
 use native.Mathlib.Omega.{arith}
@@ -11,6 +11,7 @@ use lib.Ieee.{Float, nan, inf, fin, binary32, up, down, fits, ofBits}
 use lib.Ieee.Fits.{round-fits, nan-fits}
 use lib.Ieee.Bits.{ofBits-fits}
 use lib.Ieee.Exact.{HasValue}
+use Rattle.lists.specs.Marked.{pick}
 use Rattle.floats.proofs.Exactly.{value-unique}
 use Rattle.root.specs.Root.{sq, sqrtOf, rootNear}
 use Rattle.floats.specs.Units.{unitsAt}
@@ -21,7 +22,7 @@ use Rattle.root.proofs.Patterns.{root-of-value}
 
 near-fits : (n : ℕ) → T (fits binary32 (rootNear n))
 unfolding rootNear
-near-fits n = round-fits binary32 false (2 * sq 166 n + cond (eqb (sq 166 n * sq 166 n) n) 0 1) (2 ^ 102)
+near-fits n = round-fits binary32 false (2 * sq 166 n + pick (eqb (sq 166 n * sq 166 n) n) 0 1) (2 ^ 102)
 
 -- the root of an f32 is an f32
 pub sqrt-fits : (x : Float) → T (fits binary32 x) → T (fits binary32 (sqrtOf x))

@@ -1,12 +1,13 @@
 -- The square root of an f32, rounded to the nearest f32. Definitions only.
-use mathlib.Core.Bool.{true, false, cond}
+use mathlib.Core.Bool.{true, false}
 use Prim.Native.Nat.{ℕ, zero, suc, _+_, _*_, _/_, _^_}
 use lib.Dec.{leb, eqb}
 use lib.Ieee.{Float, nan, inf, fin, binary32, up, down, round}
+use Rattle.lists.specs.Marked.{pick}
 
 -- one more binary digit of a root: r from the digits so far, doubled
 abbrev pub digit : ℕ → ℕ → ℕ
-digit r n = cond (leb ((r + 1) * (r + 1)) n) (r + 1) r
+digit r n = pick (leb ((r + 1) * (r + 1)) n) (r + 1) r
 
 -- the largest number whose square is at most n, for an n below 4 ^ k
 unfoldable pub sq : ℕ → ℕ → ℕ
@@ -17,7 +18,7 @@ sq (suc k) n = digit (2 * sq k (n / 4)) n
 -- its last digit only matters by not being zero, and stands for a half.
 unfoldable pub rootNear : ℕ → Float
 unfolding sq round
-rootNear n = let r = sq 166 n in round binary32 false (2 * r + cond (eqb (r * r) n) 0 1) (2 ^ 102)
+rootNear n = let r = sq 166 n in round binary32 false (2 * r + pick (eqb (r * r) n) 0 1) (2 ^ 102)
 
 -- IEEE 754's squareRoot. A finite x above zero is n / 4 ^ 101 for a whole number n, since it is a multiple of 2 ^ -149.
 unfoldable pub sqrtOf : Float → Float

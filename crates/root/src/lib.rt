@@ -5,6 +5,7 @@ ghost use lib.Ieee as Ieee;
 ghost use lib.Ieee.{binary32};
 ghost use Rattle.floats.specs.Units.{unitsAt};
 ghost use Rattle.root.specs.Root.{sqrtOf};
+ghost use Rattle.root.specs.Nearest.{Positive, NearestRoot};
 
 // The largest r with r * r <= n, a binary digit at a time from the highest.
 pub fn isqrt(n: u64) -> u64
@@ -59,9 +60,10 @@ fn root_bits(b: u32) -> u32
     (((k + 4) / 2 + 49) * 0x80_0000 + (t + 1) / 2) as u32
 }
 
-// The f32 nearest to the square root of x: IEEE 754's squareRoot.
+// IEEE 754's squareRoot: of a finite x above zero the nearest of all f32.
 pub fn sqrt(x: f32) -> f32
     ensures { λ r. ⌜ r ≡ sqrtOf x ⌝ }
+    ensures nearest { λ r. ⌜ (Positive x → NearestRoot x r) ⌝ }
 {
     if x != x {
         return x;

@@ -5,12 +5,12 @@ use native.Mathlib.Omega.{arith}
 use native.Mathlib.Nat.{zero-add, suc-add}
 use native.Mathlib.Numerals.{add-one}
 use lib.Ieee.{Float}
-use Rattle.pose.specs.Pose.{posed}
+use Rattle.pose.specs.Pose.{unscaledOf}
 use Rattle.pose.specs.declared.Pose.{Pose}
 use Rattle.pose.specs.declared.Answer.the-variants.{Refused}
 use Rattle.solve.specs.declared.Step.{Step}
 use Rattle.solve.specs.declared.Step.the-variants.{Refuse, Stop, Move}
-use Rattle.runs.specs.Runs.{Run, going, settled, refused, start, landed, next, after, outcomeOf}
+use Rattle.runs.specs.Runs.{Run, going, stopped, refused, start, landed, next, after, outcomeOf}
 
 module _ (pass : Pose → Float → Step) where
   -- where one more pass changes nothing, no number of them does
@@ -28,7 +28,7 @@ module _ (pass : Pose → Float → Step) where
 
   module _ (k : ℕ) (p : Pose) (rho last : Float) (e : after pass k ≡ going k p rho last) where
     -- where max_iter passes are done the pose stands
-    pub passed : (sx sy : Float) (m : ℕ) → k ≡ m → outcomeOf sx sy (after pass m) ≡ record { passes = k; answer = posed sx sy p rho }
+    pub passed : (sx sy : Float) (m : ℕ) → k ≡ m → outcomeOf sx sy (after pass m) ≡ record { passes = k; answer = unscaledOf sx sy p rho }
     unfolding outcomeOf
     passed sx sy m h = ap (λ (i : ℕ). outcomeOf sx sy (after pass i)) (sym h) ∙ ap (outcomeOf sx sy) e
 
@@ -46,6 +46,6 @@ module _ (pass : Pose → Float → Step) where
       unfolding landed outcomeOf next
       refusing sx sy n m g h = rw (ended (refused (suc k) n) (k + 1) m refl (one-more ∙ ap (landed k p) g) h) (ap (λ (i : ℕ). outcomeOf sx sy (refused i n)) (sym (add-one k)))
 
-      pub stopping : (sx sy : Float) (r : Float) (m : ℕ) → x ≡ Stop r → k + 1 ≤ m → outcomeOf sx sy (after pass m) ≡ record { passes = k + 1; answer = posed sx sy p r }
+      pub stopping : (sx sy : Float) (r : Float) (m : ℕ) → x ≡ Stop r → k + 1 ≤ m → outcomeOf sx sy (after pass m) ≡ record { passes = k + 1; answer = unscaledOf sx sy p r }
       unfolding landed outcomeOf next
-      stopping sx sy r m g h = rw (ended (settled (suc k) p r) (k + 1) m refl (one-more ∙ ap (landed k p) g) h) (ap (λ (i : ℕ). outcomeOf sx sy (settled i p r)) (sym (add-one k)))
+      stopping sx sy r m g h = rw (ended (stopped (suc k) p r) (k + 1) m refl (one-more ∙ ap (landed k p) g) h) (ap (λ (i : ℕ). outcomeOf sx sy (stopped i p r)) (sym (add-one k)))

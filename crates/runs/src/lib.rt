@@ -6,6 +6,7 @@ ghost use mathlib.Core.Path.{_≡_};
 ghost use Prim.Native.Nat.{_*_, _≤_};
 ghost use lib.ListN.{length};
 ghost use Rattle.lists.specs.Lists.{image};
+ghost use Rattle.lists.specs.Premises.{InRange, Lent, RowScratch};
 ghost use Rattle.pass.specs.Pass.{passOf};
 ghost use Rattle.pass.specs.Kept.{Kept, KeptMarks};
 ghost use Rattle.runs.specs.Runs.{after, outcomeOf};
@@ -28,8 +29,11 @@ pub fn run(
     across: &mut [f32],
     down: &mut [f32],
 ) -> Outcome
-    requires { ⌜ (1 ≤ w) × (w ≤ 4096) × (1 ≤ h) × (h ≤ 4096) × (12 * (w * h) ≤ length (now work)) × (w * h ≤ length (now marks)) × (w ≤ length (now spots)) × (w ≤ length (now across)) × (w ≤ length (now down)) × («max_iter» ≤ 1000) ⌝ }
-    ensures { λ r. ⌜ (let n = w * h in let xs = now (work .entry) in r ≡ outcomeOf sx sy (after (passOf (image n 8 xs) (image n 2 xs) (image n 3 xs) (image n 4 xs) w h eps) «max_iter»)) ⌝ }
+    requires { ⌜ InRange w h × Lent (w * h) (now work) (now marks) × RowScratch w (now spots) (now across) (now down) × («max_iter» ≤ 1000) ⌝ }
+    ensures { λ r. ⌜
+        (let n = w * h in let xs = now (work .entry) in
+        r ≡ outcomeOf sx sy (after (passOf (image n 8 xs) (image n 2 xs) (image n 3 xs) (image n 4 xs) w h eps) «max_iter»))
+        ⌝ }
     ensures { λ r. ⌜ Kept (w * h) (now (work .entry)) (now (work .exit)) × KeptMarks (w * h) (now (marks .entry)) (now (marks .exit)) ⌝ }
 {
     let mut at = Pose {
@@ -42,7 +46,7 @@ pub fn run(
     let mut k = 0usize;
     let answer = loop {
         if k == max_iter {
-            break pose::unscaled(at, rho, sx, sy);
+            break pose::unscaled(sx, sy, at, rho);
         }
         let step = pass::pass(work, marks, w, h, eps, at, last, spots, across, down);
         k += 1;
@@ -51,7 +55,7 @@ pub fn run(
                 break Answer::Refused(n);
             }
             Step::Stop(r) => {
-                break pose::unscaled(at, r, sx, sy);
+                break pose::unscaled(sx, sy, at, r);
             }
             Step::Move(p, r) => {
                 at = p;

@@ -5,12 +5,12 @@ use mathlib.Core.List.{List, [], _∷_}
 use native.Mathlib.Omega.{arith}
 use lib.ListN.{length, drop, length-drop}
 use Rattle.lists.specs.Marked.{pick}
-use Rattle.scan.specs.Scan.{digit, countOf, valueOf, digitsAt}
+use Rattle.scan.specs.Scan.{isDigit, countOf, valueOf, digitsAt}
 
 few : (s : List ℕ) → countOf s ≤ length s
 unfolding countOf pick
 few [] = omega arith
-few (b ∷ s) = go (digit b) (few s)
+few (b ∷ s) = go (isDigit b) (few s)
   where
     go : (t : Bool) → countOf s ≤ length s → pick t (suc (countOf s)) 0 ≤ suc (length s)
     go true h = omega (arith, h)

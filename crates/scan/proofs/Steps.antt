@@ -11,10 +11,10 @@ use lib.ListN.{length, drop, getD, drop-of-length-le}
 use lib.Seq.{drop-cons}
 use Rattle.lists.specs.Marked.{pick}
 use Rattle.lists.proofs.Cases.{pick-true, pick-false}
-use Rattle.scan.specs.Scan.{digit, countOf, valueOf, digitsAt}
+use Rattle.scan.specs.Scan.{isDigit, countOf, valueOf, digitsAt}
 
-pub digit-low : (b : ℕ) → digit b ≡ true → 48 ≤ b
-unfolding digit
+pub digit-low : (b : ℕ) → isDigit b ≡ true → 48 ≤ b
+unfolding isDigit
 digit-low b e = leb-true 48 b (left (leb 48 b) (leb b 57) e)
   where
     left : (a b : Bool) → a && b ≡ true → a ≡ true
@@ -23,41 +23,41 @@ digit-low b e = leb-true 48 b (left (leb 48 b) (leb b 57) e)
 
 -- a list that begins with b
 module _ (b : ℕ) (s : List ℕ) where
-  count-more : digit b ≡ true → countOf (b ∷ s) ≡ suc (countOf s)
+  count-more : isDigit b ≡ true → countOf (b ∷ s) ≡ suc (countOf s)
   unfolding countOf
   count-more e = pick-true _ _ _ e
 
-  count-none : digit b ≡ false → countOf (b ∷ s) ≡ 0
+  count-none : isDigit b ≡ false → countOf (b ∷ s) ≡ 0
   unfolding countOf
   count-none e = pick-false _ _ _ e
 
-  value-more : (v : ℕ) → digit b ≡ true → valueOf v (b ∷ s) ≡ valueOf (10 * v + (b - 48)) s
+  value-more : (v : ℕ) → isDigit b ≡ true → valueOf v (b ∷ s) ≡ valueOf (10 * v + (b - 48)) s
   unfolding valueOf
   value-more v e = pick-true _ _ _ e
 
-  value-none : (v : ℕ) → digit b ≡ false → valueOf v (b ∷ s) ≡ v
+  value-none : (v : ℕ) → isDigit b ≡ false → valueOf v (b ∷ s) ≡ v
   unfolding valueOf
   value-none v e = pick-false _ _ _ e
 
 -- the byte at i of a list
 module _ (s : List ℕ) (i : ℕ) (h : i < length s) where
-  count-step : digit (getD s i 0) ≡ true → countOf (drop i s) ≡ suc (countOf (drop (suc i) s))
+  count-step : isDigit (getD s i 0) ≡ true → countOf (drop i s) ≡ suc (countOf (drop (suc i) s))
   count-step e = ap countOf (drop-cons s i 0 h) ∙ count-more (getD s i 0) (drop (suc i) s) e
 
-  count-stop : digit (getD s i 0) ≡ false → countOf (drop i s) ≡ 0
+  count-stop : isDigit (getD s i 0) ≡ false → countOf (drop i s) ≡ 0
   count-stop e = ap countOf (drop-cons s i 0 h) ∙ count-none (getD s i 0) (drop (suc i) s) e
 
-  value-step : (v : ℕ) → digit (getD s i 0) ≡ true → valueOf v (drop i s) ≡ valueOf (10 * v + (getD s i 0 - 48)) (drop (suc i) s)
+  value-step : (v : ℕ) → isDigit (getD s i 0) ≡ true → valueOf v (drop i s) ≡ valueOf (10 * v + (getD s i 0 - 48)) (drop (suc i) s)
   value-step v e = ap (valueOf v) (drop-cons s i 0 h) ∙ value-more (getD s i 0) (drop (suc i) s) v e
 
-  value-stop : (v : ℕ) → digit (getD s i 0) ≡ false → valueOf v (drop i s) ≡ v
+  value-stop : (v : ℕ) → isDigit (getD s i 0) ≡ false → valueOf v (drop i s) ≡ v
   value-stop v e = ap (valueOf v) (drop-cons s i 0 h) ∙ value-none (getD s i 0) (drop (suc i) s) v e
 
 -- a number that is held on the way
 held : (s : List ℕ) (u v m : ℕ) → min u m ≡ min v m → min (valueOf u s) m ≡ min (valueOf v s) m
 unfolding valueOf pick
 held [] u v m e = e
-held (b ∷ s) u v m e = go (digit b) (held s (10 * u + (b - 48)) (10 * v + (b - 48)) m (omega (arith, e)))
+held (b ∷ s) u v m e = go (isDigit b) (held s (10 * u + (b - 48)) (10 * v + (b - 48)) m (omega (arith, e)))
   where
     go : (d : Bool) → min (valueOf (10 * u + (b - 48)) s) m ≡ min (valueOf (10 * v + (b - 48)) s) m →
         min (pick d (valueOf (10 * u + (b - 48)) s) u) m ≡ min (pick d (valueOf (10 * v + (b - 48)) s) v) m
@@ -87,10 +87,10 @@ module _ {s : List ℕ} {a u m v i : ℕ} (r : Read s a u m v i) where
   unfolding countOf valueOf
   read-end h = ended (ap countOf (drop-of-length-le s h)) (ap (valueOf v) (drop-of-length-le s h))
 
-  pub read-stop : i < length s → digit (getD s i 0) ≡ false → record { value = v; next = i } ≡ digitsAt s a u m
+  pub read-stop : i < length s → isDigit (getD s i 0) ≡ false → record { value = v; next = i } ≡ digitsAt s a u m
   read-stop h e = ended (count-stop s i h e) (value-stop s i h v e)
 
-  pub read-more : {w : ℕ} → i < length s → digit (getD s i 0) ≡ true → w ≡ min (10 * v + (getD s i 0 - 48)) m → Read s a u m w (i + 1)
+  pub read-more : {w : ℕ} → i < length s → isDigit (getD s i 0) ≡ true → w ≡ min (10 * v + (getD s i 0 - 48)) m → Read s a u m w (i + 1)
   read-more {w} h e q =
       let x = 10 * v + (getD s i 0 - 48) in
       let t = drop (suc i) s in

@@ -1,7 +1,7 @@
 // A whole number in decimal, read from bytes. What stands there may be anything, and of any length.
 ghost use mathlib.Core.Path.{_≡_};
 ghost use Prim.Native.Nat.{_+_, _-_, _*_, _≤_, min};
-ghost use Rattle.scan.specs.Scan.{digit, digitsAt};
+ghost use Rattle.scan.specs.Scan.{isDigit, digitsAt};
 
 pub struct Digits {
     pub value: usize,
@@ -10,7 +10,7 @@ pub struct Digits {
 }
 
 pub fn is_digit(b: u8) -> bool
-    ensures { λ r. ⌜ r ≡ digit b ⌝ }
+    ensures { λ r. ⌜ r ≡ isDigit b ⌝ }
 {
     if b < b'0' {
         return false;

@@ -1,3 +1,4 @@
 pub mod Recurrence
 pub mod Scale
 pub mod Square
+pub mod Signed

@@ -10,6 +10,7 @@ use lib.Ieee.{Float, nan, inf, fin, binary32, up, down, fits, toBits}
 use lib.Ieee.Fits.{down-pos}
 use lib.Ieee.Exact.{HasValue}
 use lib.Ieee.Nearest.{div-same}
+use Rattle.lists.specs.Marked.{pick}
 use Rattle.floats.specs.Bound.{Within}
 use Rattle.floats.specs.Units.{unitsAt}
 use Rattle.floats.proofs.Within.{within-finite}
@@ -25,10 +26,12 @@ units-square-le b c h = mul-le-mul-right (2 ^ 30) (mul-le-mul (units-mono b c h)
 
 -- up to 2 it is at most 2 ^ 32
 pub square-le : (b : ℕ) → b ≤ 1073741824 → squareUnits b ≤ 2 ^ 32
+unfolding pick
 square-le b h = div-le-of-le-mul (2 ^ 149 * 2 ^ 149) (le-trans (units-square-le b 1073741824 h) (lit≤ tt))
 
 -- below 2 ^ -23 it is 0
 pub square-none : (b : ℕ) → b / 8388608 < 104 → squareUnits b ≡ 0
+unfolding pick
 square-none b h = div-eq-of-lt (lt-of-le-of-lt (units-square-le b 872415231 (last b h)) (lit< tt))
   where
     last : (b : ℕ) → b / 8388608 < 104 → b ≤ 872415231

@@ -1,10 +1,10 @@
 -- The cosine, the sine and e^-a by document 01's recurrences on whole numbers in units of 2 ^ -30. Definitions only.
 -- Floors are of exact values: `/` on whole numbers cuts. `round binary32 s n (2 ^ 30)` is n / 2 ^ 30 to f32: nearest, ties to even.
-use mathlib.Core.Bool.{true, false, cond}
+use mathlib.Core.Bool.{true, false}
 use Prim.Native.Nat.{ℕ, _+_, _-_, _*_, _/_, _^_}
-use lib.Dec.{leb}
+use lib.IntN.{ℤ, pos, negsuc, subℕ}
 use lib.Ieee.{Float, nan, inf, fin, binary32, up, down, round, mul}
-use Rattle.series.specs.Recurrence.{takenOf, stepsOf}
+use Rattle.series.specs.Recurrence.{quotientOf, stepsOf}
 use Rattle.series.specs.declared.Series.{Series}
 use Rattle.series.specs.declared.Series.the-variants.{Cosine, Sine, Exponential}
 
@@ -20,10 +20,10 @@ limitOf Cosine = 2 ^ 32
 limitOf Sine = 2 ^ 32
 limitOf Exponential = 2 ^ 30
 
-abbrev pub lastOf : Series → ℕ
-lastOf Cosine = 2
-lastOf Sine = 1
-lastOf Exponential = 1
+abbrev pub lowestOf : Series → ℕ
+lowestOf Cosine = 2
+lowestOf Sine = 1
+lowestOf Exponential = 1
 
 -- Z = floor(theta²·2^30)
 unfoldable pub zOf : Float → ℕ
@@ -31,15 +31,16 @@ zOf nan = 0
 zOf (inf s) = 0
 zOf (fin s m e) = m * up e * (m * up e) * 2 ^ 30 / (down e * down e)
 
--- (2^30 − w) / 2^30 to f32: w may be above 2^30
-unfoldable pub restOf : ℕ → Float
+-- U/2^30 to f32, of a U with its sign
+unfoldable pub over30Of : ℤ → Float
 unfolding round
-restOf w = cond (leb w (2 ^ 30)) (round binary32 false (2 ^ 30 - w) (2 ^ 30)) (round binary32 true (w - 2 ^ 30) (2 ^ 30))
+over30Of (pos n) = round binary32 false n (2 ^ 30)
+over30Of (negsuc n) = round binary32 true (n + 1) (2 ^ 30)
 
--- the cosine: the steps for k = 8 down to 2, then the one for k = 1, after which U may be below zero
+-- the cosine: the steps for k = 8 down to 2, then the one for k = 1, after which U = 2^30 − floor(..) may be below zero
 unfoldable pub cosOf : Float → Float
-unfolding zOf stepsOf restOf
-cosOf theta = let z = zOf theta in restOf (takenOf z (divisorOf Cosine 1) (stepsOf (divisorOf Cosine) z 8 7))
+unfolding zOf stepsOf over30Of
+cosOf theta = let z = zOf theta in over30Of (subℕ (2 ^ 30) (quotientOf z (divisorOf Cosine 1) (stepsOf (divisorOf Cosine) z 8 7)))
 
 -- the sine: W after the steps for k = 8 down to 1; W/2^30 to f32, times theta
 unfoldable pub sinOf : Float → Float

@@ -7,8 +7,8 @@ ghost use lib.Ieee as Ieee;
 ghost use lib.Ieee.{binary32};
 ghost use Rattle.floats.specs.Bound.{Within, UpTo};
 ghost use Rattle.floats.specs.Units.{unitsAt};
-ghost use Rattle.series.specs.Recurrence.{stepOf, stepsOf};
-ghost use Rattle.series.specs.Series.{divisorOf, limitOf, lastOf, zOf, yOf, squaredOf, cosOf, sinOf, expNegOf};
+ghost use Rattle.series.specs.Recurrence.{uNext, stepsOf};
+ghost use Rattle.series.specs.Series.{divisorOf, limitOf, lowestOf, zOf, yOf, squaredOf, cosOf, sinOf, expNegOf};
 
 // Which of the three recurrences: they differ in their divisors.
 pub enum Series {
@@ -19,7 +19,7 @@ pub enum Series {
 
 // The divisor of the step for k.
 fn divisor(s: Series, k: u64) -> u64
-    requires { ⌜ (lastOf s ≤ k) × (k ≤ 12) ⌝ }
+    requires { ⌜ (lowestOf s ≤ k) × (k ≤ 12) ⌝ }
     ensures { λ r. ⌜ r ≡ divisorOf s k ⌝ }
 {
     match s {
@@ -32,14 +32,14 @@ fn divisor(s: Series, k: u64) -> u64
 // 1 - z * u / d in units of 2^-30.
 fn step(z: u64, d: u64, u: u64) -> u64
     requires { ⌜ (z ≤ 2 ^ 32) × (1 ≤ d) × (d ≤ 600) × (z ≤ 2 ^ 30 * d) × (u ≤ 2 ^ 30) ⌝ }
-    ensures { λ r. ⌜ (r ≡ stepOf z d u) × (r ≤ 2 ^ 30) ⌝ }
+    ensures { λ r. ⌜ (r ≡ uNext z d u) × (r ≤ 2 ^ 30) ⌝ }
 {
     0x4000_0000 - z * u / (0x4000_0000 * d)
 }
 
 // The first n steps of a recurrence that begins at k = top.
 fn steps(s: Series, z: u64, top: u64, n: u64) -> u64
-    requires { ⌜ (z ≤ limitOf s) × (top ≤ 12) × (lastOf s + n ≤ top + 1) ⌝ }
+    requires { ⌜ (z ≤ limitOf s) × (top ≤ 12) × (lowestOf s + n ≤ top + 1) ⌝ }
     ensures { λ r. ⌜ (r ≡ stepsOf (divisorOf s) z top n) × (r ≤ 2 ^ 30) ⌝ }
 {
     let mut u: u64 = 0x4000_0000;
@@ -79,6 +79,7 @@ fn z_of(theta: f32) -> u64
     square_of(f32::to_bits(theta) % 0x8000_0000)
 }
 
+// The cosine: the steps for k = 8 down to 2, then the one for k = 1, after which U may be below zero.
 pub fn cos(theta: f32) -> f32
     requires { ⌜ Within theta 2 1 ⌝ }
     ensures { λ r. ⌜ r ≡ cosOf theta ⌝ }
@@ -92,6 +93,7 @@ pub fn cos(theta: f32) -> f32
     }
 }
 
+// The sine: the steps for k = 8 down to 1, to f32, times theta.
 pub fn sin(theta: f32) -> f32
     requires { ⌜ Within theta 2 1 ⌝ }
     ensures { λ r. ⌜ r ≡ sinOf theta ⌝ }

@@ -17,7 +17,7 @@ use Rattle.floats.proofs.Within.{rep-down}
 use Rattle.floats.proofs.Patterns.{lt-or-le}
 use Rattle.floats.proofs.Values.{upto-within}
 use Rattle.numbers.specs.Numbers.{roundOf}
-use Rattle.settings.specs.Sides.{scaledOf, sideOf, resizedOf}
+use Rattle.settings.specs.Sides.{scaledSideOf, sideOf, resizedOf}
 use Rattle.settings.specs.declared.Sides.{Sides}
 use Rattle.floats.proofs.Upward.{value-upto, round-upto, mul-upto}
 use Rattle.floats.proofs.Casts.{cast-within}
@@ -32,15 +32,15 @@ module _ (edge long s : ℕ) (L : long ≤ 4096) (E : edge ≤ long) (P : 1 ≤ 
       rw (div-value binary32 (f32 edge) (f32 long) false false edge 1 long 1 (lit< tt) P (whole-is edge (omega arith)) (whole-is long (omega arith)))
       (round-upto false (edge * 1) (1 * long) 1 1 (omega arith) (rep-down 1 0 (lit≤ tt) (lit≤ tt)) (λ t. absurd t) (omega arith))
 
-  pub scaled-upto : UpTo (scaledOf edge long s) 4096 1
-  unfolding scaledOf
+  pub scaled-upto : UpTo (scaledSideOf edge long s) 4096 1
+  unfolding scaledSideOf
   scaled-upto =
       mul-upto (f32 s) (f32 edge ⊘ f32 long) s 1 1 1 4096 1 (lit< tt) (lit< tt) (rep-down 4096 0 (lit≤ tt) (lit≤ tt)) (omega arith)
       (value-upto (f32 s) s 1 (whole-is s (omega arith))) ratio-upto
 
   -- rounding keeps 4096
-  pub rounded-most : toUnsigned 64 (roundOf (scaledOf edge long s)) ≤ 4096
-  rounded-most = cast-within 64 (roundOf (scaledOf edge long s)) 4096 (roundOf-within (scaledOf edge long s) 4096 (lit≤ tt) (upto-within (scaledOf edge long s) 4096 1 scaled-upto))
+  pub rounded-most : toUnsigned 64 (roundOf (scaledSideOf edge long s)) ≤ 4096
+  rounded-most = cast-within 64 (roundOf (scaledSideOf edge long s)) 4096 (roundOf-within (scaledSideOf edge long s) 4096 (lit≤ tt) (upto-within (scaledSideOf edge long s) 4096 1 scaled-upto))
 
   pub side-range : (8 ≤ sideOf edge long s) × (sideOf edge long s ≤ 4096)
   unfolding sideOf

@@ -8,12 +8,12 @@ use Rattle.numbers.specs.Numbers.{roundOf}
 use Rattle.settings.specs.declared.Sides.{Sides}
 
 -- width as f32 * scale, with scale = target_long_edge as f32 / current_long as f32
-unfoldable pub scaledOf : ℕ → ℕ → ℕ → Float
-scaledOf edge long s = f32 s ⊗ (f32 edge ⊘ f32 long)
+unfoldable pub scaledSideOf : ℕ → ℕ → ℕ → Float
+scaledSideOf edge long s = f32 s ⊗ (f32 edge ⊘ f32 long)
 
 -- (.. .round() as usize).max(8)
 unfoldable pub sideOf : ℕ → ℕ → ℕ → ℕ
-sideOf edge long s = max (toUnsigned 64 (roundOf (scaledOf edge long s))) 8
+sideOf edge long s = max (toUnsigned 64 (roundOf (scaledSideOf edge long s))) 8
 
 -- if target_long_edge > 0 and current_long > target_long_edge both sides are scaled; else they stay
 unfoldable pub resizedOf : ℕ → ℕ → ℕ → Sides

@@ -4,9 +4,10 @@
 // most 4,096, so an image has at most 2^24 pixels.
 ghost use mathlib.Core.Path.{_≡_};
 ghost use Prim.Native.Nat.{_≤_};
+ghost use Rattle.lists.specs.Premises.{InRange};
 ghost use Rattle.floats.specs.Bound.{UpTo};
 ghost use Rattle.settings.specs.Settings.{defaultsOf, edgeOf};
-ghost use Rattle.settings.specs.Sides.{scaledOf, sideOf, resizedOf};
+ghost use Rattle.settings.specs.Sides.{scaledSideOf, sideOf, resizedOf};
 
 // The resize choice: none, or an edge length for the longer side. Length 0 means none.
 pub enum LongEdge {
@@ -59,7 +60,7 @@ pub struct Sides {
 // A side times edge / long in f32, before it is rounded.
 fn scaled(edge: usize, long: usize, s: usize) -> f32
     requires { ⌜ (long ≤ 4096) × (edge ≤ long) × (1 ≤ long) × (s ≤ long) ⌝ }
-    ensures { λ r. ⌜ (r ≡ scaledOf edge long s) × UpTo r 4096 1 ⌝ }
+    ensures { λ r. ⌜ (r ≡ scaledSideOf edge long s) × UpTo r 4096 1 ⌝ }
 {
     numbers::to_f32(s) * (numbers::to_f32(edge) / numbers::to_f32(long))
 }
@@ -75,8 +76,8 @@ fn side(edge: usize, long: usize, s: usize) -> usize
 
 // Both sides after resizing.
 pub fn resized(edge: usize, w: usize, h: usize) -> Sides
-    requires { ⌜ (1 ≤ w) × (w ≤ 4096) × (1 ≤ h) × (h ≤ 4096) ⌝ }
-    ensures { λ r. ⌜ (r ≡ resizedOf edge w h) × (1 ≤ r .w) × (r .w ≤ 4096) × (1 ≤ r .h) × (r .h ≤ 4096) ⌝ }
+    requires { ⌜ InRange w h ⌝ }
+    ensures { λ r. ⌜ (r ≡ resizedOf edge w h) × InRange (r .w) (r .h) ⌝ }
 {
     let long = if w < h { h } else { w };
     if edge > 0 {

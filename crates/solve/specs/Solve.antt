@@ -25,20 +25,19 @@ movedOf p delta rho =
     pick (isPose theta tx ty) (Move (record { theta = theta; tx = tx; ty = ty }) rho) (Refuse 10)
 
 -- lambda_n, lambda_d and lambda; 9 where lambda_d <= 0 or is not finite, or lambda is not finite
-module _ (marks : List ℕ) (n : ℕ) (p : Pose) (j0 j1 j2 tz iz : List Float) (s : Stats) (rho : Float) where
+module _ (marks : List ℕ) (n : ℕ) (p : Pose) (j0 j1 j2 «template_zm» «image_zm» : List Float) (s : Stats) (rho : Float) where
   unfoldable pub updateOf : Inverse → Step
   updateOf Missing = Refuse 8
-  updateOf (Exists h) =
-      let ip = projOf marks n j0 j1 j2 iz in
-      let tp = projOf marks n j0 j1 j2 tz in
-      let iph = timesOf h ip in
-      let n′ = s .«img_norm» ⊗ s .«img_norm» ⊖ dotOf ip iph in
-      let d = s .corr ⊖ dotOf tp iph in
-      let lambda = n′ ⊘ d in
-      pick (le d 0f) (Refuse 9)
-      (pick (finite d)
-      (pick (finite lambda) (movedOf p (timesOf h (projOf marks n j0 j1 j2 (errorOf n lambda tz iz))) rho) (Refuse 9))
-      (Refuse 9))
+  updateOf (Exists «h_inv») =
+      let «image_proj» = projOf marks n j0 j1 j2 «image_zm» in
+      let «template_proj» = projOf marks n j0 j1 j2 «template_zm» in
+      let «image_proj_hessian» = timesOf «h_inv» «image_proj» in
+      let «lambda_n» = s .«img_norm» ⊗ s .«img_norm» ⊖ dotOf «image_proj» «image_proj_hessian» in
+      let «lambda_d» = s .corr ⊖ dotOf «template_proj» «image_proj_hessian» in
+      let lambda = «lambda_n» ⊘ «lambda_d» in
+      let «error_proj» = projOf marks n j0 j1 j2 (errorOf n lambda «template_zm» «image_zm») in
+      pick (le «lambda_d» 0f) (Refuse 9)
+      (pick (finite «lambda_d») (pick (finite lambda) (movedOf p (timesOf «h_inv» «error_proj») rho) (Refuse 9)) (Refuse 9))
 
   unfoldable pub solveOf : Step
   solveOf = updateOf (inverseOf (hessianOf marks n j0 j1 j2))

@@ -12,6 +12,7 @@ ghost use lib.Ieee.Scale.{finite};
 ghost use lib.ListN.{length};
 ghost use Rattle.lists.specs.Lists.{image, setImage};
 ghost use Rattle.lists.specs.Marked.{pick};
+ghost use Rattle.lists.specs.Premises.{InRange};
 ghost use Rattle.floats.specs.Bound.{Within};
 ghost use Rattle.floats.specs.F32.{_⊖_, _⊗_, _⊘_, 0f};
 ghost use Rattle.inverse.specs.Inverse.{timesOf, dotOf};
@@ -78,8 +79,11 @@ pub fn solve(
     s: stats::Stats,
     rho: f32,
 ) -> Step
-    requires { ⌜ (1 ≤ w) × (w ≤ 4096) × (1 ≤ h) × (h ≤ 4096) × (6 * (w * h) ≤ length (now part)) × (w * h ≤ length (now marks)) × Within (at .theta) 2 1 ⌝ }
-    ensures { λ r. ⌜ now (part .exit) ≡ setImage (w * h) 5 (steepOf w h (at .theta) (image (w * h) 0 (now (part .entry))) (image (w * h) 1 (now (part .entry)))) (now (part .entry)) ⌝ }
+    requires { ⌜ InRange w h × (6 * (w * h) ≤ length (now part)) × (w * h ≤ length (now marks)) × Within (at .theta) 2 1 ⌝ }
+    ensures { λ r. ⌜
+        now (part .exit) ≡ setImage (w * h) 5
+        (steepOf w h (at .theta) (image (w * h) 0 (now (part .entry))) (image (w * h) 1 (now (part .entry)))) (now (part .entry))
+        ⌝ }
     ensures { λ r. ⌜ r ≡ solveOf (now (marks .entry)) (w * h) at
         (steepOf w h (at .theta) (image (w * h) 0 (now (part .entry))) (image (w * h) 1 (now (part .entry))))
         (image (w * h) 0 (now (part .entry))) (image (w * h) 1 (now (part .entry))) (image (w * h) 3 (now (part .entry))) (image (w * h) 4 (now (part .entry))) s rho ⌝ }

@@ -26,7 +26,11 @@ productOf marks n xs ys = sumOver (on marks) (λ i. getD xs i nan ⊗ getD ys i 
 
 -- (t_ss.sqrt(), i_ss.sqrt(), corr) of the centred images
 unfoldable pub statsOf : List ℕ → ℕ → List Float → List Float → Stats
-statsOf marks n tz iz = record { «tmp_norm» = sqrtOf (productOf marks n tz tz); «img_norm» = sqrtOf (productOf marks n iz iz); corr = productOf marks n tz iz }
+statsOf marks n «template_zm» «image_zm» = record {
+  «tmp_norm» = sqrtOf (productOf marks n «template_zm» «template_zm»);
+  «img_norm» = sqrtOf (productOf marks n «image_zm» «image_zm»);
+  corr = productOf marks n «template_zm» «image_zm»;
+}
 
 -- the part afterwards, and the answer
 pub record Centred (marks : List ℕ) (n : ℕ) (xs xs′ : List Float) (r : Stats) : Type 0 where

@@ -28,7 +28,9 @@ struct Products(f32, f32, f32);
 // The means of the template and the image over the marked pixels.
 fn means_over_mask(part: &[f32], marks: &[u8], n: usize, found: usize) -> Means
     requires { ⌜ (n ≤ 16777216) × (found ≡ countOn (now marks) n) × (6 * n ≤ length (now part)) × (n ≤ length (now marks)) ⌝ }
-    ensures { λ r. ⌜ r ≡ (meanOf (now (marks .entry)) n (image n 3 (now (part .entry))), meanOf (now (marks .entry)) n (image n 0 (now (part .entry)))) ⌝ }
+    ensures { λ r. ⌜
+        r ≡ (meanOf (now (marks .entry)) n (image n 3 (now (part .entry))), meanOf (now (marks .entry)) n (image n 0 (now (part .entry))))
+        ⌝ }
 {
     let t = 3 * n;
     let mut s = Means(0.0, 0.0);

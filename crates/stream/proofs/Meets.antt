@@ -9,8 +9,8 @@ use lib.ListN.{length}
 use Rattle.lists.proofs.Cases.{pick-true, pick-false}
 use Rattle.records.specs.Reading.{nextOf}
 use Rattle.records.specs.declared.Record.{Record}
-use Rattle.stream.specs.Memory.{storeBy, workBy, marksBy, storeOf, workOf, marksOf}
-use Rattle.stream.specs.Stream.{overOf, actOf, stepOf, Bounded}
+use Rattle.stream.specs.Memory.{storeBy, workBy, marksBy, steppedStore, steppedWork, steppedMarks}
+use Rattle.stream.specs.Stream.{overOf, actOf, stepOf, StepBounds}
 use Rattle.stream.specs.declared.State.{State}
 use Rattle.stream.specs.declared.Step.{Step}
 use Rattle.stream.proofs.Bounded.{bounded}
@@ -25,15 +25,15 @@ module _ (st : State) (s store : List ℕ) (work : List Float) (marks : List ℕ
   -- the step r, and store, work and marks after it
   abbrev pub Meets : Step → List ℕ → List Float → List ℕ → Type 0
   Meets r x y z =
-      ((r ≡ stepOf st s store k m) × Bounded st s r)
-      × ((x ≡ storeOf st s store) × ((y ≡ workOf st s (length store) work m) × (z ≡ marksOf st s (length store) k marks)))
+      ((r ≡ stepOf st s store k m) × StepBounds st s r)
+      × ((x ≡ steppedStore st s store) × ((y ≡ steppedWork st s (length store) work m) × (z ≡ steppedMarks st s (length store) k marks)))
 
-  stepped : (r : Step) → r ≡ stepOf st s store k m → (r ≡ stepOf st s store k m) × Bounded st s r
-  stepped r e = (e, subst (Bounded st s) (sym e) (bounded st s store k m))
+  stepped : (r : Step) → r ≡ stepOf st s store k m → (r ≡ stepOf st s store k m) × StepBounds st s r
+  stepped r e = (e, subst (StepBounds st s) (sym e) (bounded st s store k m))
 
   pub at-record : eqb (st .rest) 0 ≡ true → (q : Record) → nextOf s ≡ q → {r : Step} {x z : List ℕ} {y : List Float} → r ≡ actOf st s store k m q
       → x ≡ storeBy s store q → y ≡ workBy st s (length store) work m q → z ≡ marksBy st s (length store) k marks q → Meets r x y z
-  unfolding stepOf storeOf workOf marksOf
+  unfolding stepOf steppedStore steppedWork steppedMarks
   at-record z q e {r} a b c d = (
     stepped r (a ∙ sym (pick-true _ _ _ z ∙ ap (actOf st s store k m) e)),
     (
@@ -46,5 +46,5 @@ module _ (st : State) (s store : List ℕ) (work : List Float) (marks : List ℕ
   )
 
   pub read-over : eqb (st .rest) 0 ≡ false → {r : Step} → r ≡ overOf st (length s) → Meets r store work marks
-  unfolding stepOf storeOf workOf marksOf
+  unfolding stepOf steppedStore steppedWork steppedMarks
   read-over z {r} a = (stepped r (a ∙ sym (pick-false _ _ _ z)), (sym (pick-false _ _ _ z), (sym (pick-false _ _ _ z), sym (pick-false _ _ _ z))))

@@ -11,7 +11,7 @@ use Rattle.records.specs.Reading.{nextOf}
 use Rattle.records.specs.declared.Record.{Record}
 use Rattle.records.specs.declared.Record.the-variants.{More, Settings, Frame, Large, Other, Broken}
 use Rattle.lists.proofs.Cases.{either}
-use Rattle.stream.specs.Memory.{atFrame, storeBy, storeOf}
+use Rattle.stream.specs.Memory.{atFrame, storeBy, steppedStore}
 use Rattle.stream.specs.Stream.{passedOf, overOf, actOf, stepOf}
 use Rattle.stream.specs.declared.Event.the-variants as event
 use Rattle.stream.specs.declared.State.{State}
@@ -45,6 +45,6 @@ module _ (st : State) (s store : List ℕ) (k m : ℕ) where
   by-rest false = over-waits
 
   -- THE LAW
-  pub waits : Waits (stepOf st s store k m) (storeOf st s store)
-  unfolding stepOf storeOf
+  pub waits : Waits (stepOf st s store k m) (steppedStore st s store)
+  unfolding stepOf steppedStore
   waits = by-rest (eqb (st .rest) 0)

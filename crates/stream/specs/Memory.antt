@@ -23,28 +23,28 @@ atFrame (Large n) x f = x
 atFrame (Other n) x f = x
 atFrame Broken x f = x
 
--- ---- after a record at the start of s, with a store of j bytes, k floats and m marks
+-- ---- after a record at the start of s. Of store, work and marks those that a definition does not hand back are given by their lengths
 
 unfoldable pub storeBy : List ℕ → List ℕ → Record → List ℕ
 storeBy s store r = atFrame r store (λ w h n. storeAfter (pixelsOf s n) w h store)
 
 unfoldable pub workBy : State → List ℕ → ℕ → List Float → ℕ → Record → List Float
-workBy st s j work m r =
+workBy st s store work marks r =
     let a = st .aligner in
-    atFrame r work (λ w h n. workAfter (refusedOf a (length (pixelsOf s n)) w h j (length work) m) (sizeOf (a .cfg) w h) work)
+    atFrame r work (λ w h n. workAfter (refusedOf a (length (pixelsOf s n)) w h store (length work) marks) (sizeOf (a .cfg) w h) work)
 
 unfoldable pub marksBy : State → List ℕ → ℕ → ℕ → List ℕ → Record → List ℕ
-marksBy st s j k marks r =
+marksBy st s store work marks r =
     let a = st .aligner in
-    atFrame r marks (λ w h n. marksAfter (refusedOf a (length (pixelsOf s n)) w h j k (length marks)) (sizeOf (a .cfg) w h) marks)
+    atFrame r marks (λ w h n. marksAfter (refusedOf a (length (pixelsOf s n)) w h store work (length marks)) (sizeOf (a .cfg) w h) marks)
 
 -- ---- after a step: a body that is read over leaves all as it was
 
-unfoldable pub storeOf : State → List ℕ → List ℕ → List ℕ
-storeOf st s store = pick (eqb (st .rest) 0) (storeBy s store (nextOf s)) store
+unfoldable pub steppedStore : State → List ℕ → List ℕ → List ℕ
+steppedStore st s store = pick (eqb (st .rest) 0) (storeBy s store (nextOf s)) store
 
-unfoldable pub workOf : State → List ℕ → ℕ → List Float → ℕ → List Float
-workOf st s j work m = pick (eqb (st .rest) 0) (workBy st s j work m (nextOf s)) work
+unfoldable pub steppedWork : State → List ℕ → ℕ → List Float → ℕ → List Float
+steppedWork st s store work marks = pick (eqb (st .rest) 0) (workBy st s store work marks (nextOf s)) work
 
-unfoldable pub marksOf : State → List ℕ → ℕ → ℕ → List ℕ → List ℕ
-marksOf st s j k marks = pick (eqb (st .rest) 0) (marksBy st s j k marks (nextOf s)) marks
+unfoldable pub steppedMarks : State → List ℕ → ℕ → ℕ → List ℕ → List ℕ
+steppedMarks st s store work marks = pick (eqb (st .rest) 0) (marksBy st s store work marks (nextOf s)) marks

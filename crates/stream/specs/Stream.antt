@@ -57,23 +57,23 @@ overOf st n =
     (did n event.Quiet (stateOf (st .rest - n) (st .large) (st .frames) (st .aligner)))
     (pick (st .large) (passedOf st) (did (st .rest) event.Quiet (stateOf 0 (st .large) (st .frames) (st .aligner)))))
 
--- a record at the start of s, with a store, and with k floats and m marks lent
+-- a record at the start of s, with a store, and with work and marks of these lengths lent
 unfoldable pub actOf : State → List ℕ → List ℕ → ℕ → ℕ → Record → Step
-actOf st s store k m More = did 0 event.More st
-actOf st s store k m (Settings cfg) = did 20 event.Quiet (stateOf (st .rest) (st .large) (st .frames) (freshOf cfg))
-actOf st s store k m (Frame w h n) =
-    let reply = estimateOf (st .aligner) (pixelsOf s n) w h store k m in
+actOf st s store work marks More = did 0 event.More st
+actOf st s store work marks (Settings cfg) = did 20 event.Quiet (stateOf (st .rest) (st .large) (st .frames) (freshOf cfg))
+actOf st s store work marks (Frame w h n) =
+    let reply = estimateOf (st .aligner) (pixelsOf s n) w h store work marks in
     did (10 + n) (event.Print (lineOf (st .frames) (reply .outcome))) (stateOf (st .rest) (st .large) (st .frames + 1) (reply .aligner))
-actOf st s store k m (Large n) = did 6 event.Quiet (stateOf n true (st .frames) (st .aligner))
-actOf st s store k m (Other n) = did 6 event.Quiet (stateOf n false (st .frames) (st .aligner))
-actOf st s store k m Broken = did 0 event.Broken st
+actOf st s store work marks (Large n) = did 6 event.Quiet (stateOf n true (st .frames) (st .aligner))
+actOf st s store work marks (Other n) = did 6 event.Quiet (stateOf n false (st .frames) (st .aligner))
+actOf st s store work marks Broken = did 0 event.Broken st
 
 -- the bytes s at hand: a record's, or those of a body that is read over
 unfoldable pub stepOf : State → List ℕ → List ℕ → ℕ → ℕ → Step
-stepOf st s store k m = pick (eqb (st .rest) 0) (actOf st s store k m (nextOf s)) (overOf st (length s))
+stepOf st s store work marks = pick (eqb (st .rest) 0) (actOf st s store work marks (nextOf s)) (overOf st (length s))
 
 -- what a caller counts on: a step uses bytes that are at hand, and answers one frame at the most; where it wants more, few are at hand
-pub record Bounded (st : State) (s : List ℕ) (r : Step) : Type 0 where
+pub record StepBounds (st : State) (s : List ℕ) (r : Step) : Type 0 where
   pub within : r .used ≤ length s
   pub one : r .state .frames ≤ st .frames + 1
   pub few : r .event ≡ event.More → length s < 1034

@@ -6,9 +6,9 @@ ghost use mathlib.Core.Path.{_≡_};
 ghost use Prim.Native.Nat.{_+_, _≤_, _<_};
 ghost use lib.ListN.{length};
 ghost use Rattle.records.specs.declared.Record.the-variants.{Frame};
-ghost use Rattle.stream.specs.Stream.{stateOf, firstState, did, passedOf, overOf, actOf, stepOf, Bounded, endOf};
+ghost use Rattle.stream.specs.Stream.{stateOf, firstState, did, passedOf, overOf, actOf, stepOf, StepBounds, endOf};
 ghost use Rattle.stream.specs.declared.Event.the-variants as event;
-ghost use Rattle.stream.specs.Memory.{storeBy, workBy, marksBy, storeOf, workOf, marksOf};
+ghost use Rattle.stream.specs.Memory.{storeBy, workBy, marksBy, steppedStore, steppedWork, steppedMarks};
 use aligner::EccAligner;
 use lines::Line;
 use pose::Answer;
@@ -129,9 +129,15 @@ fn answer(
     marks: &mut [u8],
 ) -> Step
     requires { ⌜ (state .frames < 18446744073709551615) × (10 + size ≤ length (now s)) ⌝ }
-    ensures { λ r. ⌜ r ≡ actOf state (now (s .entry)) (now (store .entry)) (length (now (work .entry))) (length (now (marks .entry))) (Frame w h size) ⌝ }
+    ensures { λ r. ⌜
+        r ≡ actOf state (now (s .entry)) (now (store .entry)) (length (now (work .entry))) (length (now (marks .entry))) (Frame w h size)
+        ⌝ }
     ensures { λ r. ⌜ now (store .exit) ≡ storeBy (now (s .entry)) (now (store .entry)) (Frame w h size) ⌝ }
-    ensures { λ r. ⌜ (now (work .exit) ≡ workBy state (now (s .entry)) (length (now (store .entry))) (now (work .entry)) (length (now (marks .entry))) (Frame w h size)) × (now (marks .exit) ≡ marksBy state (now (s .entry)) (length (now (store .entry))) (length (now (work .entry))) (now (marks .entry)) (Frame w h size)) ⌝ }
+    ensures { λ r. ⌜
+        (now (work .exit) ≡ workBy state (now (s .entry)) (length (now (store .entry))) (now (work .entry)) (length (now (marks .entry)))
+        (Frame w h size)) × (now (marks .exit) ≡
+        marksBy state (now (s .entry)) (length (now (store .entry))) (length (now (work .entry))) (now (marks .entry)) (Frame w h size))
+        ⌝ }
 {
     let end = 10 + size;
     let reply = aligner::estimate(state.aligner, &s[10..end], w, h, store, work, marks);
@@ -165,9 +171,17 @@ fn skip(state: State, n: usize, large: bool) -> Step
 // What to do with the bytes at hand.
 pub fn advance(state: State, s: &[u8], store: &mut [u8], work: &mut [f32], marks: &mut [u8]) -> Step
     requires { ⌜ state .frames < 18446744073709551615 ⌝ }
-    ensures { λ r. ⌜ (r ≡ stepOf state (now (s .entry)) (now (store .entry)) (length (now (work .entry))) (length (now (marks .entry)))) × Bounded state (now (s .entry)) r ⌝ }
-    ensures { λ r. ⌜ now (store .exit) ≡ storeOf state (now (s .entry)) (now (store .entry)) ⌝ }
-    ensures { λ r. ⌜ (now (work .exit) ≡ workOf state (now (s .entry)) (length (now (store .entry))) (now (work .entry)) (length (now (marks .entry)))) × (now (marks .exit) ≡ marksOf state (now (s .entry)) (length (now (store .entry))) (length (now (work .entry))) (now (marks .entry))) ⌝ }
+    ensures { λ r. ⌜
+        (r ≡ stepOf state (now (s .entry)) (now (store .entry)) (length (now (work .entry))) (length (now (marks .entry))))
+        × StepBounds state (now (s .entry)) r
+        ⌝ }
+    ensures { λ r. ⌜ now (store .exit) ≡ steppedStore state (now (s .entry)) (now (store .entry)) ⌝ }
+    ensures { λ r. ⌜
+        (now (work .exit) ≡ steppedWork state (now (s .entry)) (length (now (store .entry))) (now (work .entry))
+        (length (now (marks .entry))))
+        × (now (marks .exit) ≡ steppedMarks state (now (s .entry)) (length (now (store .entry))) (length (now (work .entry)))
+        (now (marks .entry)))
+        ⌝ }
 {
     if state.rest != 0 {
         return over(state, s.len());

@@ -39,4 +39,4 @@ hessianOf marks n j0 j1 j2 = record {
 
 -- e = lambda * template_zm - image_zm
 unfoldable pub errorOf : ℕ → Float → List Float → List Float → List Float
-errorOf n lambda tz iz = tab n (λ i. lambda ⊗ getD tz i nan ⊖ getD iz i nan)
+errorOf n lambda «template_zm» «image_zm» = tab n (λ i. lambda ⊗ getD «template_zm» i nan ⊖ getD «image_zm» i nan)

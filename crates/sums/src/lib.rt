@@ -49,7 +49,10 @@ fn steep_row(part: &mut [f32], n: usize, row: usize, w: usize, ct: f32, st: f32,
 // j0 = gxw * hat_x + gyw * hat_y, with hat_x = -(x * st) - (y * ct) and hat_y = (x * ct) - (y * st).
 pub fn steep(part: &mut [f32], w: usize, h: usize, theta: f32)
     requires { ⌜ (w ≤ 4096) × (h ≤ 4096) × (6 * (w * h) ≤ length (now part)) × Within theta 2 1 ⌝ }
-    ensures { λ _. ⌜ now (part .exit) ≡ setImage (w * h) 5 (steepOf w h theta (image (w * h) 0 (now (part .entry))) (image (w * h) 1 (now (part .entry)))) (now (part .entry)) ⌝ }
+    ensures { λ _. ⌜
+        now (part .exit) ≡ setImage (w * h) 5
+        (steepOf w h theta (image (w * h) 0 (now (part .entry))) (image (w * h) 1 (now (part .entry)))) (now (part .entry))
+        ⌝ }
 {
     let n = w * h;
     let ct = series::cos(theta);
@@ -79,7 +82,16 @@ fn add_scaled(s: Vector3, j: Vector3, v: f32) -> Vector3
 
 // A pixel's products with each other added.
 fn add_squares(s: Upper, j: Vector3) -> Upper
-    ensures { λ r. ⌜ r ≡ record { m00 = s .m00 ⊕ j .0 ⊗ j .0; m01 = s .m01 ⊕ j .0 ⊗ j .1; m02 = s .m02 ⊕ j .0 ⊗ j .2; m11 = s .m11 ⊕ j .1 ⊗ j .1; m12 = s .m12 ⊕ j .1 ⊗ j .2; m22 = s .m22 ⊕ j .2 ⊗ j .2 } ⌝ }
+    ensures { λ r. ⌜
+        r ≡ record {
+          m00 = s .m00 ⊕ j .0 ⊗ j .0;
+          m01 = s .m01 ⊕ j .0 ⊗ j .1;
+          m02 = s .m02 ⊕ j .0 ⊗ j .2;
+          m11 = s .m11 ⊕ j .1 ⊗ j .1;
+          m12 = s .m12 ⊕ j .1 ⊗ j .2;
+          m22 = s .m22 ⊕ j .2 ⊗ j .2;
+        }
+        ⌝ }
 {
     Upper {
         m00: s.m00 + j.0 * j.0,
@@ -93,7 +105,19 @@ fn add_squares(s: Upper, j: Vector3) -> Upper
 
 // The matrix with this upper half, and its mirror image below.
 fn symmetric(s: Upper) -> Matrix3
-    ensures { λ r. ⌜ r ≡ record { m00 = s .m00; m01 = s .m01; m02 = s .m02; m10 = s .m01; m11 = s .m11; m12 = s .m12; m20 = s .m02; m21 = s .m12; m22 = s .m22 } ⌝ }
+    ensures { λ r. ⌜
+        r ≡ record {
+          m00 = s .m00;
+          m01 = s .m01;
+          m02 = s .m02;
+          m10 = s .m01;
+          m11 = s .m11;
+          m12 = s .m12;
+          m20 = s .m02;
+          m21 = s .m12;
+          m22 = s .m22;
+        }
+        ⌝ }
 {
     Matrix3 {
         m00: s.m00,
@@ -111,9 +135,18 @@ fn symmetric(s: Upper) -> Matrix3
 // h, image_proj and template_proj.
 pub fn project(part: &[f32], marks: &[u8], n: usize) -> Sums
     requires { ⌜ (6 * n ≤ length (now part)) × (n ≤ length (now marks)) ⌝ }
-    ensures { λ r. ⌜ r .h ≡ hessianOf (now (marks .entry)) n (image n 5 (now (part .entry))) (image n 0 (now (part .entry))) (image n 1 (now (part .entry))) ⌝ }
-    ensures { λ r. ⌜ r .«image_proj» ≡ projOf (now (marks .entry)) n (image n 5 (now (part .entry))) (image n 0 (now (part .entry))) (image n 1 (now (part .entry))) (image n 4 (now (part .entry))) ⌝ }
-    ensures { λ r. ⌜ r .«template_proj» ≡ projOf (now (marks .entry)) n (image n 5 (now (part .entry))) (image n 0 (now (part .entry))) (image n 1 (now (part .entry))) (image n 3 (now (part .entry))) ⌝ }
+    ensures { λ r. ⌜
+        r .h ≡ hessianOf (now (marks .entry)) n (image n 5 (now (part .entry))) (image n 0 (now (part .entry)))
+        (image n 1 (now (part .entry)))
+        ⌝ }
+    ensures { λ r. ⌜
+        r .«image_proj» ≡ projOf (now (marks .entry)) n (image n 5 (now (part .entry))) (image n 0 (now (part .entry)))
+        (image n 1 (now (part .entry))) (image n 4 (now (part .entry)))
+        ⌝ }
+    ensures { λ r. ⌜
+        r .«template_proj» ≡ projOf (now (marks .entry)) n (image n 5 (now (part .entry))) (image n 0 (now (part .entry)))
+        (image n 1 (now (part .entry))) (image n 3 (now (part .entry)))
+        ⌝ }
 {
     let tz = 3 * n;
     let iz = 4 * n;
@@ -147,7 +180,10 @@ pub fn project(part: &[f32], marks: &[u8], n: usize) -> Sums
 // error_proj: the sums of j with e = lambda * template_zm - image_zm.
 pub fn errors(part: &[f32], marks: &[u8], n: usize, lambda: f32) -> Vector3
     requires { ⌜ (6 * n ≤ length (now part)) × (n ≤ length (now marks)) ⌝ }
-    ensures { λ r. ⌜ r ≡ projOf (now (marks .entry)) n (image n 5 (now (part .entry))) (image n 0 (now (part .entry))) (image n 1 (now (part .entry))) (errorOf n lambda (image n 3 (now (part .entry))) (image n 4 (now (part .entry)))) ⌝ }
+    ensures { λ r. ⌜
+        r ≡ projOf (now (marks .entry)) n (image n 5 (now (part .entry))) (image n 0 (now (part .entry))) (image n 1 (now (part .entry)))
+        (errorOf n lambda (image n 3 (now (part .entry))) (image n 4 (now (part .entry))))
+        ⌝ }
 {
     let tz = 3 * n;
     let iz = 4 * n;

@@ -12,7 +12,7 @@ use lib.ListN.{length, length-append}
 use lib.Signed.{ltZ}
 use Rattle.io.specs.Digits.{glyph, digits, Fewest}
 use Rattle.lists.proofs.Cases.{pick-true, pick-false}
-use Rattle.text.specs.Text.{digitsOf, decimalOf, sizeOf, signedOf}
+use Rattle.text.specs.Text.{digitsOf, decimalOf, distanceOf, signedOf}
 
 -- ---- one digit, or more
 
@@ -91,12 +91,12 @@ few k n h = few-digits n k n h
 
 -- ---- signs
 
-pub signed-below : (n : ℤ) → ltZ n (pos 0) ≡ true → signedOf n ≡ 45 ∷ decimalOf (sizeOf n)
+pub signed-below : (n : ℤ) → ltZ n (pos 0) ≡ true → signedOf n ≡ 45 ∷ decimalOf (distanceOf n)
 unfolding signedOf
 signed-below (pos n) e = absurd (omega (arith, ltb-true n 0 e))
 signed-below (negsuc n) e = refl
 
-pub signed-above : (n : ℤ) → ltZ n (pos 0) ≡ false → signedOf n ≡ decimalOf (sizeOf n)
+pub signed-above : (n : ℤ) → ltZ n (pos 0) ≡ false → signedOf n ≡ decimalOf (distanceOf n)
 unfolding signedOf
 signed-above (pos n) e = refl
 signed-above (negsuc n) e = absurd (true≢false e)

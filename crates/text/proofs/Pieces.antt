@@ -9,7 +9,7 @@ use lib.ListN.{length, length-append}
 use Rattle.lists.specs.Lists.{put}
 use Rattle.lists.specs.Marked.{pick}
 use Rattle.lists.proofs.Put.{then-put}
-use Rattle.text.specs.Text.{decimalOf, signedOf, lineOf, frameLine, endWord, endLine, Wrote}
+use Rattle.text.specs.Text.{decimalOf, signedOf, wordsLine, frameLine, endWord, endLine, Wrote}
 
 module _ {xs ys zs : List ℕ} {a m n b r : ℕ} {l k : List ℕ} where
   pub then-wrote : Wrote xs a l m ys b → Wrote ys b k n zs r → a + m + n ≤ length xs → Wrote xs a (l ++ k) (m + n) zs r
@@ -43,13 +43,13 @@ length-ended w b = length-append w (b ∷ [])
 pub frame-pieces : (position number passes : ℕ) (dx dy turn : ℤ) →
     ((((ended (decimalOf position) 32 ++ ended (decimalOf number) 32) ++ ended (decimalOf passes) 32) ++ ended (signedOf dx) 32) ++ ended (signedOf dy) 32) ++ ended (signedOf turn) 10
     ≡ frameLine position number passes dx dy turn
-unfolding frameLine lineOf
+unfolding frameLine wordsLine
 frame-pieces position number passes dx dy turn = simp append-assoc
 
 pub done-pieces : (frames : ℕ) → (100 ∷ 111 ∷ 110 ∷ 101 ∷ 32 ∷ []) ++ ended (decimalOf frames) 10 ≡ endLine true frames
-unfolding endLine endWord lineOf pick
+unfolding endLine endWord wordsLine pick
 done-pieces frames = refl
 
 pub cut-pieces : (frames : ℕ) → (99 ∷ 117 ∷ 116 ∷ 32 ∷ []) ++ ended (decimalOf frames) 10 ≡ endLine false frames
-unfolding endLine endWord lineOf pick
+unfolding endLine endWord wordsLine pick
 cut-pieces frames = refl

@@ -8,7 +8,7 @@ use native.Mathlib.Omega.{arith}
 use lib.IntN.{ℤ, pos, negsuc}
 use lib.ListN.{getD, drop}
 use Rattle.lists.specs.Marked.{pick}
-use Rattle.text.specs.Text.{digitsOf, decimalOf, signedOf, lineOf, frameLine, endWord, endLine}
+use Rattle.text.specs.Text.{digitsOf, decimalOf, signedOf, wordsLine, frameLine, endWord, endLine}
 use Rattle.text.proofs.Digits.{one-digit, more-digits, one-or-more}
 
 -- ---- one number
@@ -107,7 +107,7 @@ module _ (b : ℕ) (low : b ≤ 32) where
 
 pub frame-tells : (p n k : ℕ) (x y t : ℤ) (p' n' k' : ℕ) (x' y' t' : ℤ) → frameLine p n k x y t ≡ frameLine p' n' k' x' y' t' →
     (p ≡ p') × (n ≡ n') × (k ≡ k') × (x ≡ x') × (y ≡ y') × (t ≡ t')
-unfolding frameLine lineOf
+unfolding frameLine wordsLine
 frame-tells p n k x y t p' n' k' x' y' t' e =
     let a = number-tells 32 (omega arith) p p' _ _ e in
     let b = number-tells 32 (omega arith) n n' _ _ (a .1) in
@@ -118,7 +118,7 @@ frame-tells p n k x y t p' n' k' x' y' t' e =
     (a .0, b .0, c .0, d .0, f .0, g .0)
 
 pub end-tells : (a b : Bool) (m n : ℕ) → endLine a m ≡ endLine b n → (a ≡ b) × (m ≡ n)
-unfolding endLine endWord lineOf pick
+unfolding endLine endWord wordsLine pick
 end-tells true true m n e = (refl, number-tells 10 (omega arith) m n _ _ (rest (rest (rest (rest (rest e))))) .0)
 end-tells false false m n e = (refl, number-tells 10 (omega arith) m n _ _ (rest (rest (rest (rest e)))) .0)
 end-tells true false m n e = let q : _≡_ {A = ℕ} 100 99 = first e in absurd (omega arith)

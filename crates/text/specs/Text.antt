@@ -20,9 +20,9 @@ unfolding digitsOf
 decimalOf n = digitsOf n n
 
 -- the distance to 0
-abbrev pub sizeOf : ℤ → ℕ
-sizeOf (pos n) = n
-sizeOf (negsuc n) = n + 1
+abbrev pub distanceOf : ℤ → ℕ
+distanceOf (pos n) = n
+distanceOf (negsuc n) = n + 1
 
 -- with a '-' in front where the number is negative
 unfoldable pub signedOf : ℤ → List ℕ
@@ -31,16 +31,16 @@ signedOf (pos n) = decimalOf n
 signedOf (negsuc n) = 45 ∷ decimalOf (n + 1)
 
 -- words with a blank between two of them and a newline at the end
-unfoldable pub lineOf : List (List ℕ) → List ℕ
-lineOf [] = 10 ∷ []
-lineOf (w ∷ []) = w ++ (10 ∷ [])
-lineOf (w ∷ v ∷ ws) = w ++ (32 ∷ lineOf (v ∷ ws))
+unfoldable pub wordsLine : List (List ℕ) → List ℕ
+wordsLine [] = 10 ∷ []
+wordsLine (w ∷ []) = w ++ (10 ∷ [])
+wordsLine (w ∷ v ∷ ws) = w ++ (32 ∷ wordsLine (v ∷ ws))
 
 -- a frame's line: its position from 1, number, passes, dx, dy, turn
 unfoldable pub frameLine : ℕ → ℕ → ℕ → ℤ → ℤ → ℤ → List ℕ
-unfolding lineOf decimalOf signedOf
+unfolding wordsLine decimalOf signedOf
 frameLine position number passes dx dy turn =
-    lineOf (decimalOf position ∷ decimalOf number ∷ decimalOf passes ∷ signedOf dx ∷ signedOf dy ∷ signedOf turn ∷ [])
+    wordsLine (decimalOf position ∷ decimalOf number ∷ decimalOf passes ∷ signedOf dx ∷ signedOf dy ∷ signedOf turn ∷ [])
 
 -- `done` or `cut`
 unfoldable pub endWord : Bool → List ℕ
@@ -48,8 +48,8 @@ endWord done = pick done (100 ∷ 111 ∷ 110 ∷ 101 ∷ []) (99 ∷ 117 ∷ 11
 
 -- the last line: the word and the count of frames
 unfoldable pub endLine : Bool → ℕ → List ℕ
-unfolding lineOf endWord decimalOf
-endLine done frames = lineOf (endWord done ∷ decimalOf frames ∷ [])
+unfolding wordsLine endWord decimalOf
+endLine done frames = wordsLine (endWord done ∷ decimalOf frames ∷ [])
 
 -- ys is xs with l in place of what stood from a on; r is the index after l, and l has at most `most` bytes
 pub record Wrote (xs : List ℕ) (a : ℕ) (l : List ℕ) (most : ℕ) (ys : List ℕ) (r : ℕ) : Type 0 where

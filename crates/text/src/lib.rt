@@ -5,7 +5,7 @@ ghost use mathlib.Core.Path.{_≡_};
 ghost use mathlib.Core.List.{[], _∷_, _++_};
 ghost use Prim.Native.Nat.{_+_, _≤_};
 ghost use lib.ListN.{length};
-ghost use Rattle.text.specs.Text.{decimalOf, sizeOf, signedOf, frameLine, endLine, Wrote};
+ghost use Rattle.text.specs.Text.{decimalOf, distanceOf, signedOf, frameLine, endLine, Wrote};
 
 // The bytes of src.
 fn put_bytes(out: &mut [u8], at: usize, src: &[u8]) -> usize
@@ -50,7 +50,7 @@ fn put_decimal(out: &mut [u8], at: usize, n: u64, end: u8) -> usize
 
 // The distance of n to 0.
 pub fn size(n: i16) -> u64
-    ensures { λ r. ⌜ (r ≡ sizeOf n) × (r ≤ 32768) ⌝ }
+    ensures { λ r. ⌜ (r ≡ distanceOf n) × (r ≤ 32768) ⌝ }
 {
     let m = n as i64;
     if m < 0 { (0 - m) as u64 } else { m as u64 }

@@ -1,23 +1,17 @@
 // Whether the code gives the answer that a vector has. A vector is a list of words, its kind first; tools/vectors says how each list is
 // made. A vector that is not well formed, or outside a function's range, does not agree.
+ghost use mathlib.Core.Path.{_≡_};
+ghost use Rattle.vectors.specs.Vectors.{agreesOf};
+
 mod helpers;
 mod images;
-mod line;
 mod passes;
 mod shapes;
-mod words;
 
-pub use line::Line;
-pub use words::bytes;
-pub use words::float;
-pub use words::same_floats;
-pub use words::word;
-
-pub fn agrees(words: &[u64]) -> bool {
-    if words.len() == 0 {
-        return false;
-    }
-    let kind = words[0];
+pub fn agrees(words: &[u64]) -> bool
+    ensures { λ r. ⌜ r ≡ agreesOf (now (words .entry)) ⌝ }
+{
+    let kind = words::word(words, 0);
     if kind < 16 {
         return helpers::agrees(kind, words);
     }

@@ -1,12 +1,14 @@
 // A vector's sides and filter, held to what the arrays of the tests have room for.
 ghost use mathlib.Core.Path.{_≡_};
-ghost use Prim.Native.Nat.{_*_, _%_, _≤_};
-ghost use Rattle.vectors.specs.Shapes.{Fitting};
-use crate::words::word;
+ghost use Prim.Native.Nat.{_+_, _*_, _≤_};
+ghost use Rattle.lists.specs.Marked.{pick};
+ghost use Rattle.words.specs.Words.{storedAt};
+ghost use Rattle.vectors.specs.Shapes.{isSide, noShape, Filtered, Fitting};
+use words::word;
 
 // A side up to 4,096, or 0 where the word is more.
 pub fn side(words: &[u64], i: usize) -> usize
-    ensures { λ r. ⌜ r ≤ 4096 ⌝ }
+    ensures { λ r. ⌜ (r ≡ pick (isSide (storedAt (now (words .entry)) i)) (storedAt (now (words .entry)) i) 0) × (r ≤ 4096) ⌝ }
 {
     let v = word(words, i);
     if v <= 4096 { v as usize } else { 0 }
@@ -21,7 +23,7 @@ pub struct Shape {
 }
 
 fn no_shape() -> Shape
-    ensures { λ r. ⌜ Fitting r ⌝ }
+    ensures { λ r. ⌜ r ≡ noShape ⌝ }
 {
     Shape {
         w: 1,
@@ -33,7 +35,7 @@ fn no_shape() -> Shape
 
 pub fn sides_at(words: &[u64], i: usize) -> Shape
     requires { ⌜ i ≤ 8 ⌝ }
-    ensures { λ r. ⌜ Fitting r ⌝ }
+    ensures { λ r. ⌜ Fitting (storedAt (now (words .entry)) i) (storedAt (now (words .entry)) (i + 1)) r ⌝ }
 {
     let w = side(words, i);
     let h = side(words, i + 1);
@@ -50,16 +52,16 @@ pub fn sides_at(words: &[u64], i: usize) -> Shape
     Shape { w, h, n, ok: true }
 }
 
-// An odd number up to 31, or 1.
+// An odd number up to 31, or 0.
 pub fn filter(words: &[u64], i: usize) -> usize
-    ensures { λ r. ⌜ (r % 2 ≡ 1) × (r ≤ 31) ⌝ }
+    ensures { λ r. ⌜ Filtered (storedAt (now (words .entry)) i) r ⌝ }
 {
     let v = word(words, i);
     if v > 31 {
-        return 1;
+        return 0;
     }
     if v % 2 == 0 {
-        return 1;
+        return 0;
     }
     v as usize
 }

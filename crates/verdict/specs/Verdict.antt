@@ -1,6 +1,7 @@
 -- The tests of document 000 between the statistics of a pass and its update, in their order: 6, 7, the stop. Definitions only.
+use mathlib.Core.Path.{_≡_}
 use mathlib.Core.Bool.{Bool, _&&_}
-use lib.Ieee.{Float, binary32, le, lt, ofBits}
+use lib.Ieee.{Float, nan, binary32, le, lt, ofBits}
 use lib.Ieee.Scale.{finite}
 use Rattle.lists.specs.Marked.{pick}
 use Rattle.floats.specs.F32.{_⊖_, _⊗_, _⊘_}
@@ -17,9 +18,14 @@ tiny = ofBits binary32 0x3586_37bd
 abbrev pub stops : Float → Float → Float → Bool
 stops rho last eps = finite last && lt (absOf (rho ⊖ last)) eps
 
+-- tmp_norm <= 1e-6 || img_norm <= 1e-6: 6; rho not finite: 7; else whether the passes stop
 unfoldable pub verdictOf : Stats → Float → Float → Verdict
 verdictOf s last eps =
     let rho = s .corr ⊘ (s .«img_norm» ⊗ s .«tmp_norm») in
     pick (le (s .«tmp_norm») tiny) (Bad 6)
     (pick (le (s .«img_norm») tiny) (Bad 6)
     (pick (finite rho) (pick (stops rho last eps) (Settled rho) (Unsettled rho)) (Bad 7)))
+
+-- THE STATEMENT: a NaN norm is not flat. Where both norms are NaN no test for flatness passes, and the correlation is not finite
+abbrev pub NanIsNotFlat : Type 0
+NanIsNotFlat = (s : Stats) (last eps : Float) → s .«tmp_norm» ≡ nan → s .«img_norm» ≡ nan → verdictOf s last eps ≡ Bad 7

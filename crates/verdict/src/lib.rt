@@ -18,6 +18,7 @@ fn settled(rho: f32, last: f32, eps: f32) -> bool
     numbers::is_finite(last) && numbers::abs(rho - last) < eps
 }
 
+// The verdict over the statistics of a pass: 6, 7, or whether the correlation has settled within eps of the last one.
 pub fn judge(s: Stats, last: f32, eps: f32) -> Verdict
     ensures { λ r. ⌜ r ≡ verdictOf s last eps ⌝ }
 {

@@ -12,10 +12,9 @@ use Rattle.lists.proofs.Fill.{Run, runs, Apart, runs-none, runs-more, take-runs
 use Rattle.marks.specs.Marks.{countOn}
 use Rattle.marks.proofs.Count.{count-none}
 use Rattle.pose.specs.declared.Map.{Map}
-use Rattle.places.specs.Point.{marksOf}
-use Rattle.places.specs.Places.{markOf}
-use Rattle.warp.specs.Warp.{warpOf, Warped}
-use Rattle.warp.specs.Rows.{pixelOf, RowOf}
+use Rattle.places.specs.Point.{marksOf, markOf}
+use Rattle.warp.specs.Warp.{warpOf, Warped, pixelOf}
+use Rattle.warp.specs.Rows.{RowOf}
 use Rattle.warp.proofs.Rows.{sources-kept}
 
 module _ (map : Map) (w h : ℕ) (xs : List Float) (ms : List ℕ) where

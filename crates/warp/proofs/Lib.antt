@@ -1,3 +1,4 @@
 pub mod Pixel
 pub mod Rows
 pub mod Frame
+pub mod Sizes

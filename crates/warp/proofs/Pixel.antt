@@ -10,13 +10,14 @@ use Rattle.lists.specs.Marked.{pick}
 use Rattle.lists.proofs.Cases.{pick-true}
 use Rattle.lists.proofs.Images.{getD-image}
 use Rattle.floats.specs.F32.{0f}
-use Rattle.places.specs.Places.{indexOf, PlaceAt}
+use Rattle.places.specs.Places.{PlaceAt}
 use Rattle.warp.specs.Warp.{sampleOf}
-use Rattle.warp.specs.Rows.{blendOf}
+use Rattle.places.specs.Point.{indexOf}
+use Rattle.warp.specs.Rows.{fourAt}
 
 -- the four pixels of image k, as they lie in a list of images
-pub blend-image : (xs : List Float) (n k w i : ℕ) (a b : Float) → i + w + 1 < n → blendOf xs w (k * n + i) a b ≡ blendOf (image n k xs) w i a b
-unfolding blendOf
+pub blend-image : (xs : List Float) (n k w i : ℕ) (a b : Float) → i + w + 1 < n → fourAt xs w (k * n + i) a b ≡ fourAt (image n k xs) w i a b
+unfolding fourAt
 blend-image xs n k w i a b h =
     let p : k * n + (i + 1) ≡ k * n + i + 1 = omega arith in
     let q : k * n + (i + w) ≡ k * n + i + w = omega arith in
@@ -24,12 +25,12 @@ blend-image xs n k w i a b h =
     rw (getD-image n k i xs nan (omega arith), getD-image n k (i + 1) xs nan (omega arith), getD-image n k (i + w) xs nan (omega arith), getD-image n k (i + w + 1) xs nan (omega arith), p, q, r)
 
 -- a value that the code read for image k of a marked pixel
-pub mixed : (xs : List Float) (n k w i at : ℕ) (a b : Float) (marked : Bool) (v : Float) → marked ≡ true → i + w + 1 < n → at ≡ k * n + i → v ≡ blendOf xs w at a b → v ≡ pick marked (blendOf (image n k xs) w i a b) 0f
-mixed xs n k w i at a b marked v m h e g = g ∙ ap (λ (j : ℕ). blendOf xs w j a b) e ∙ blend-image xs n k w i a b h ∙ sym (pick-true marked _ _ m)
+pub mixed : (xs : List Float) (n k w i at : ℕ) (a b : Float) (marked : Bool) (v : Float) → marked ≡ true → i + w + 1 < n → at ≡ k * n + i → v ≡ fourAt xs w at a b → v ≡ pick marked (fourAt (image n k xs) w i a b) 0f
+mixed xs n k w i at a b marked v m h e g = g ∙ ap (λ (j : ℕ). fourAt xs w j a b) e ∙ blend-image xs n k w i a b h ∙ sym (pick-true marked _ _ m)
 
 -- by its place, the sample of a point
-pub sample-is : (src : List Float) (w : ℕ) (sx sy : Float) (i : ℕ) (a b : Float) → PlaceAt w sx sy i a b → blendOf src w i a b ≡ sampleOf src w sx sy
-unfolding blendOf sampleOf indexOf
+pub sample-is : (src : List Float) (w : ℕ) (sx sy : Float) (i : ℕ) (a b : Float) → PlaceAt w sx sy i a b → fourAt src w i a b ≡ sampleOf src w sx sy
+unfolding fourAt sampleOf indexOf
 sample-is src w sx sy i a b o =
     let x0 = indexOf sx in
     let y0 = indexOf sy in

@@ -17,10 +17,11 @@ use Rattle.lists.proofs.Images.{image-agree}
 use Rattle.marks.specs.Marks.{on}
 use Rattle.floats.specs.F32.{0f}
 use Rattle.pose.specs.declared.Map.{Map}
-use Rattle.places.specs.Point.{sxOf, syOf, markedAt}
-use Rattle.places.specs.Places.{PlaceAt, markOf, PlacesOf}
+use Rattle.places.specs.Point.{sxOf, syOf, markedAt, markOf}
+use Rattle.places.specs.Places.{PlaceAt, PlacesOf}
 use Rattle.places.proofs.Point.{spot-in}
-use Rattle.warp.specs.Rows.{blendOf, ThreeOf, Reach, readOf, threeRows, pixelOf, RowOf}
+use Rattle.warp.specs.Warp.{pixelOf}
+use Rattle.warp.specs.Rows.{fourAt, ThreeOf, Reach, readOf, threeRows, RowOf}
 use Rattle.warp.specs.declared.Three.{Three}
 use Rattle.warp.proofs.Pixel.{sample-is}
 
@@ -56,7 +57,7 @@ module _ (n w row : ℕ) (ms spots : List ℕ) (across down xs : List Float) whe
     unfolding readOf
     reads-turn part x i p X q e o =
         let kept = sources-kept n xs part (ap (take (3 * n)) (q .images) ∙ take-fills w x xs targets (3 * n) apart (omega arith) (3 * n) (omega arith)) in
-        let value : (k : ℕ) → k < 3 → (v : Float) → v ≡ pick (on ms (row + x)) (blendOf (image n k part) w i (getD across x nan) (getD down x nan)) 0f → v ≡ rule k x =
+        let value : (k : ℕ) → k < 3 → (v : Float) → v ≡ pick (on ms (row + x)) (fourAt (image n k part) w i (getD across x nan) (getD down x nan)) 0f → v ≡ rule k x =
         λ k K v g. rw (kept k K, e) at g in
         record {
           bound = omega arith;

@@ -3,30 +3,33 @@ use Prim.Native.Nat.{ℕ, _+_, _*_}
 use mathlib.Core.Path.{_≡_}
 use mathlib.Core.List.{List}
 use lib.ListN.{getD}
-use lib.Ieee.{Float, nan, toUnsigned}
+use lib.Ieee.{Float, nan}
 use Rattle.lists.specs.Lists.{grid, put, image, setImage}
 use Rattle.lists.specs.Marked.{pick}
 use Rattle.marks.specs.Marks.{countOn}
 use Rattle.floats.specs.F32.{_⊕_, _⊖_, _⊗_, f32, 0f, 1f}
-use Rattle.numbers.specs.Numbers.{floorOf}
 use Rattle.pose.specs.declared.Map.{Map}
-use Rattle.places.specs.Point.{sxOf, syOf, markedAt, marksOf}
+use Rattle.places.specs.Point.{sxOf, syOf, markedAt, marksOf, indexOf}
 
--- src[i00] * w00 + src[i01] * w01 + src[i10] * w10 + src[i11] * w11 at the point sx, sy
+-- p00 * w00 + p01 * w01 + p10 * w10 + p11 * w11, with w00 = (1.0 - wx) * (1.0 - wy), w01 = wx * (1.0 - wy), w10 = (1.0 - wx) * wy, w11 = wx * wy
+unfoldable pub fourOf : Float → Float → Float → Float → Float → Float → Float
+fourOf p00 p01 p10 p11 wx wy = p00 ⊗ ((1f ⊖ wx) ⊗ (1f ⊖ wy)) ⊕ p01 ⊗ (wx ⊗ (1f ⊖ wy)) ⊕ p10 ⊗ ((1f ⊖ wx) ⊗ wy) ⊕ p11 ⊗ (wx ⊗ wy)
+
+-- the four pixels of the point sx, sy: src[i00], src[i01], src[i10], src[i11], with wx = sx - x0 as f32 and wy = sy - y0 as f32
 unfoldable pub sampleOf : List Float → ℕ → Float → Float → Float
 sampleOf src w sx sy =
-    let x0 = toUnsigned 64 (floorOf sx) in
-    let y0 = toUnsigned 64 (floorOf sy) in
-    let wx = sx ⊖ f32 x0 in
-    let wy = sy ⊖ f32 y0 in
-    getD src (y0 * w + x0) nan ⊗ ((1f ⊖ wx) ⊗ (1f ⊖ wy))
-    ⊕ getD src (y0 * w + (x0 + 1)) nan ⊗ (wx ⊗ (1f ⊖ wy))
-    ⊕ getD src ((y0 + 1) * w + x0) nan ⊗ ((1f ⊖ wx) ⊗ wy)
-    ⊕ getD src ((y0 + 1) * w + (x0 + 1)) nan ⊗ (wx ⊗ wy)
+    let x0 = indexOf sx in
+    let y0 = indexOf sy in
+    fourOf (getD src (y0 * w + x0) nan) (getD src (y0 * w + (x0 + 1)) nan) (getD src ((y0 + 1) * w + x0) nan) (getD src ((y0 + 1) * w + (x0 + 1)) nan)
+    (sx ⊖ f32 x0) (sy ⊖ f32 y0)
 
--- a warped image: unmarked places hold 0
+-- a warped pixel: 0 where it is not marked
+unfoldable pub pixelOf : List Float → Map → ℕ → ℕ → ℕ → ℕ → Float
+pixelOf src map w h x y = pick (markedAt map w h x y) (sampleOf src w (sxOf map x y) (syOf map x y)) 0f
+
+-- a warped image
 unfoldable pub warpOf : List Float → Map → ℕ → ℕ → List Float
-warpOf src map w h = grid w h (λ x y. pick (markedAt map w h x y) (sampleOf src w (sxOf map x y) (syOf map x y)) 0f)
+warpOf src map w h = grid w h (pixelOf src map w h)
 
 -- the part and the marks afterwards, and the count
 pub record Warped (map : Map) (w h : ℕ) (xs : List Float) (ms : List ℕ) (xs′ : List Float) (ms′ : List ℕ) (r : ℕ) : Type 0 where

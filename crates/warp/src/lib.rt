@@ -8,14 +8,16 @@ ghost use mathlib.Core.Path.{_≡_};
 ghost use mathlib.Core.Bool.{true};
 ghost use Prim.Native.Nat.{_+_, _*_, _≤_, _<_};
 ghost use lib.ListN.{length};
+ghost use Rattle.lists.specs.Premises.{InRange, RowScratch};
 ghost use Rattle.marks.specs.Marks.{countOn};
 ghost use Rattle.places.specs.Point.{marksOf};
 ghost use Rattle.warp.specs.Warp.{Warped};
-ghost use Rattle.warp.specs.Rows.{blendOf, ThreeOf, Reach, readOf, threeRows, RowOf};
+ghost use Rattle.warp.specs.Rows.{fourAt, ThreeOf, Reach, readOf, threeRows, RowOf};
 
 // A pixel of the three warped images.
 struct Three(f32, f32, f32);
 
+// A place or a count as a usize.
 fn wide(i: u32) -> usize
     ensures { λ r. ⌜ r ≡ i ⌝ }
 {
@@ -25,7 +27,7 @@ fn wide(i: u32) -> usize
 // Four pixels, the top left one at i, weighed and added.
 fn blend(src: &[f32], w: usize, i: usize, a: f32, b: f32) -> f32
     requires { ⌜ i + w + 1 < length (now src) ⌝ }
-    ensures { λ r. ⌜ r ≡ blendOf (now (src .entry)) w i a b ⌝ }
+    ensures { λ r. ⌜ r ≡ fourAt (now (src .entry)) w i a b ⌝ }
 {
     let j = i + w;
     src[i] * ((1.0 - a) * (1.0 - b))
@@ -59,8 +61,15 @@ fn reads_row(
     n: usize,
     row: usize,
 )
-    requires { ⌜ (row + w ≤ n) × (6 * n ≤ length (now part)) × (n ≤ length (now marks)) × (w ≤ length (now spots)) × (w ≤ length (now across)) × (w ≤ length (now down)) × Reach n w row (now marks) (now spots) ⌝ }
-    ensures { λ _. ⌜ now (part .exit) ≡ threeRows n row w (readOf n w row (now (marks .entry)) (now (spots .entry)) (now (across .entry)) (now (down .entry)) (now (part .entry))) (now (part .entry)) ⌝ }
+    requires { ⌜
+        (row + w ≤ n) × (6 * n ≤ length (now part)) × (n ≤ length (now marks)) × RowScratch w (now spots) (now across) (now down)
+        × Reach n w row (now marks) (now spots)
+        ⌝ }
+    ensures { λ _. ⌜
+        now (part .exit) ≡ threeRows n row w
+        (readOf n w row (now (marks .entry)) (now (spots .entry)) (now (across .entry)) (now (down .entry)) (now (part .entry)))
+        (now (part .entry))
+        ⌝ }
 {
     let first = 3 * n + row;
     let second = 4 * n + row;
@@ -89,7 +98,10 @@ fn warp_row(
     y: usize,
     found: u32,
 ) -> u32
-    requires { ⌜ (w ≤ 4096) × (y < h) × (h ≤ 4096) × (y * w + w ≤ w * h) × (w * h ≤ 16777216) × (6 * (w * h) ≤ length (now part)) × (w * h ≤ length (now marks)) × (w ≤ length (now spots)) × (w ≤ length (now across)) × (w ≤ length (now down)) × (found ≡ countOn (marksOf map w h) (y * w)) ⌝ }
+    requires { ⌜
+        (w ≤ 4096) × (y < h) × (h ≤ 4096) × (y * w + w ≤ w * h) × (w * h ≤ 16777216) × (6 * (w * h) ≤ length (now part))
+        × (w * h ≤ length (now marks)) × RowScratch w (now spots) (now across) (now down) × (found ≡ countOn (marksOf map w h) (y * w))
+        ⌝ }
     ensures { λ r. ⌜ RowOf map w h y (now (part .entry)) (now (marks .entry)) (now (part .exit)) (now (marks .exit)) r ⌝ }
 {
     let count = places::places_row(spots, across, down, marks, map, w, h, y, found);
@@ -108,7 +120,7 @@ pub fn warp_three_inverse_map(
     across: &mut [f32],
     down: &mut [f32],
 ) -> usize
-    requires { ⌜ (1 ≤ w) × (w ≤ 4096) × (1 ≤ h) × (h ≤ 4096) × (6 * (w * h) ≤ length (now part)) × (w * h ≤ length (now marks)) × (w ≤ length (now spots)) × (w ≤ length (now across)) × (w ≤ length (now down)) ⌝ }
+    requires { ⌜ InRange w h × (6 * (w * h) ≤ length (now part)) × (w * h ≤ length (now marks)) × RowScratch w (now spots) (now across) (now down) ⌝ }
     ensures { λ r. ⌜ Warped map w h (now (part .entry)) (now (marks .entry)) (now (part .exit)) (now (marks .exit)) r ⌝ }
 {
     let mut found = 0;

@@ -15,7 +15,7 @@ use Rattle.alignment.proofs.align.Tie as tie
 mul-n : tie.Need-mul-n
 mul-n c =
     let p = c .before .before .before .before .pre in
-    sides-fit _ _ (p .5) (p .7)
+    sides-fit _ _ (p .1 .w-most) (p .1 .h-most)
 
 to-f32-requires : tie.Need-to-f32-requires
 to-f32-requires c κs = search needs
@@ -39,14 +39,14 @@ mul-fill-floats : tie.Need-mul-fill-floats
 mul-fill-floats c =
     let p = c .before .before .before .before .before .before .before .before .before .before .before .before .before .before .before .before .before .before .before .before .pre in
     let a = c .before .before .before .before .before .before .before .before .before .before .before .before .before .before .before .before .before .before .before .before .args in
-    let most : 12 * (a .tw * a .th) ≤ 12 * (4096 * 4096) = mul-le-mul (le-refl 12) (mul-le-mul (p .5) (p .7)) in
+    let most : 12 * (a .tw * a .th) ≤ 12 * (4096 * 4096) = mul-le-mul (le-refl 12) (mul-le-mul (p .1 .w-most) (p .1 .h-most)) in
     fits-le most (fits-lit tt)
 
 fill-floats-requires : tie.Need-fill-floats-requires
 fill-floats-requires c κs = search needs
 
 fill-marks-requires : tie.Need-fill-marks-requires
-fill-marks-requires c κs = search needs
+fill-marks-requires c κs = omega (arith, c .before .before .before .before .before .before .before .before .before .before .before .before .before .before .before .before .before .before .before .before .before .before .before .before .pre .4 .places)
 
 same-length : tie.Need-same-length
 same-length c = search needs

@@ -30,8 +30,7 @@ edge-requires c κs = search needs
 
 resized-requires : tie.Need-resized-requires
 resized-requires c κs =
-    let p = past _ _ _ _ _ _ _ (sym (c .before .before .check .ensures) ∙ c .before .if1 .left) in
-    (p .width-some, p .width-most, p .height-some, p .height-most)
+    past _ _ _ _ _ _ _ (sym (c .before .before .check .ensures) ∙ c .before .if1 .left) .sides
 
 align-requires : tie.Need-align-requires
 align-requires c κs =
@@ -39,7 +38,7 @@ align-requires c κs =
     let e = d .resized .ensures in
     let p = past _ _ _ _ _ _ _ (sym (d .before .before .before .check .ensures) ∙ d .before .before .if1 .left) in
     let n = size-is _ _ _ _ _ (e .0) (d .before .edge .ensures) in
-    (p .width-some, p .width-most, p .height-some, p .height-most, e .1, e .2, e .3, e .4, p .template-fits, p .input-fits, rw n (p .work-fits), rw n (p .marks-fit), p .filter-odd, p .filter-most, p .passes-most)
+    (p .sides, e .1, p .template-fits, p .input-fits, record { images = rw n (p .work-fits); places = rw n (p .marks-fit) }, p .filter, p .passes-most)
 
 same-length : tie.Need-same-length
 same-length c = search needs

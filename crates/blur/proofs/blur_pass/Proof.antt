@@ -11,7 +11,7 @@ use lib.Ieee.{Float}
 use Rattle.lists.specs.Lists.{tab, grid, put, setImage}
 use Rattle.lists.proofs.Fill.{rows-none, rows-more, take-rows, row-in}
 use Rattle.lists.proofs.Images.{image-zero}
-use Rattle.blur.specs.Pass.{tapsOf, passOf}
+use Rattle.blur.specs.Pass.{tapsOf, sweepOf}
 use Rattle.blur.proofs.blur_pass.Statement.{statement}
 use Rattle.blur.proofs.blur_pass.Tie as tie
 
@@ -62,7 +62,7 @@ same-length : tie.Need-same-length Inv-loop μ-loop
 same-length c = search needs
 
 returns : tie.Need-returns Inv-loop μ-loop
-unfolding passOf setImage
+unfolding sweepOf setImage
 returns c =
     let l = c .before in
     let end : l .loop .y ≡ l .before .before .before .args .h = omega arith in

@@ -59,7 +59,7 @@ blur-pass-requires-2 c κs =
     let s = done .before .before .before .before .before .before .before in
     let q = size (done .before .before .before .before) in
     let kept = done .blur-pass .kept .1 .0 in
-    (omega arith, omega arith, omega arith, omega arith, omega arith, omega arith, simp (length-take, length-drop) (omega (arith, s .pre)))
+    (search needs, search needs, search needs, simp (length-take, length-drop) (omega (arith, s .pre)))
 
 same-length : tie.Need-same-length
 same-length c = search needs
@@ -71,7 +71,7 @@ returns c =
     let ready = along .before .before .before .before in
     let s = ready .before .before .before in
     let a = s .args in
-    both (a .ksize) (a .w) (a .h) _ (now (a .part)) _ _ (kernel ready) (s .pre .7) (along .blur-pass .ensures) (down .blur-pass2 .ensures)
+    both (a .ksize) (a .w) (a .h) _ (now (a .part)) _ _ (kernel ready) (s .pre .3) (along .blur-pass .ensures) (down .blur-pass2 .ensures)
 
 pub gaussian-blur-separable-spec : {M : Type 1} → statement M
 gaussian-blur-separable-spec =

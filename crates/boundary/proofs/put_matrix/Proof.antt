@@ -2,13 +2,12 @@
 use native.Mathlib.Omega.{arith}
 use borrow.Author.Needs.{needs}
 use lib.ListN.{length-set}
-use Rattle.boundary.specs.Boundary.{entriesOf}
+use Rattle.inverse.specs.Inverse.{entriesOf}
 use Rattle.boundary.proofs.Front.{stored-front, short-front}
 use Rattle.boundary.proofs.put_matrix.Statement.{statement}
 use Rattle.boundary.proofs.put_matrix.Tie as tie
 
 returns : tie.Need-returns
-unfolding entriesOf
 returns c = short-front _ (entriesOf (c .before .args .m)) (c .if1 .taken)
 
 slice-write-out : tie.Need-slice-write-out
@@ -42,7 +41,6 @@ same-length : tie.Need-same-length
 same-length c = search needs
 
 returns-2 : tie.Need-returns-2
-unfolding entriesOf
 returns-2 c = stored-front _ (entriesOf (c .before .args .m)) (omega arith)
 
 pub put-matrix-spec : {M : Type 1} → statement M

@@ -1,10 +1,21 @@
 -- `calls::call_agrees` meets its contract. Assumes nothing.
-use mathlib.Core.Path.{sym}
+use mathlib.Core.Path.{sym, _∙_}
 use native.Mathlib.Omega.{arith}
+use denote.Ref.{now}
 use lib.Seq.{length-take-le}
+use borrow.Author.Tests.{not-true, not-false}
+use Rattle.calls.specs.Calls.{callAgrees}
+use Rattle.calls.proofs.Told.{call-told}
 use borrow.Author.Needs.{needs}
 use Rattle.calls.proofs.call_agrees.Statement.{statement}
 use Rattle.calls.proofs.call_agrees.Tie as tie
+
+is-whole-requires : tie.Need-is-whole-requires
+is-whole-requires c κs = search needs
+
+returns : tie.Need-returns
+unfolding callAgrees
+returns c = rw (sym (c .before .is-whole .ensures) ∙ not-true _ (c .if1 .taken))
 
 length-at-requires : tie.Need-length-at-requires
 length-at-requires c κs = search needs
@@ -17,18 +28,6 @@ length-at-requires-3 c κs = search needs
 
 length-at-requires-4 : tie.Need-length-at-requires-4
 length-at-requires-4 c κs = search needs
-
-add-at : tie.Need-add-at
-add-at c = search needs
-
-add-at-2 : tie.Need-add-at-2
-add-at-2 c = search needs
-
-is-whole-requires : tie.Need-is-whole-requires
-is-whole-requires c κs = search needs
-
-returns : tie.Need-returns
-returns c = search needs
 
 slice-aggregate-bytes : tie.Need-slice-aggregate-bytes
 slice-aggregate-bytes c = search needs
@@ -44,6 +43,12 @@ slice-aggregate-bytes-2 c = search needs
 
 bytes-requires-2 : tie.Need-bytes-requires-2
 bytes-requires-2 c κs = search needs
+
+add-called : tie.Need-add-called
+add-called c = search needs
+
+add-called-2 : tie.Need-add-called-2
+add-called-2 c = search needs
 
 array-share-prefix-template : tie.Need-array-share-prefix-template
 array-share-prefix-template c = search needs
@@ -73,25 +78,25 @@ called-requires : tie.Need-called-requires
 called-requires c κs = search needs
 
 returns-2 : tie.Need-returns-2
-returns-2 c = search needs
+returns-2 c = c .before .before .called .ensures ∙ call-told (now (c .before .before .before .before .before .before .before .before .before .before .before .before .before .before .before .before .before .before .before .before .args .words)) (sym (c .before .before .before .before .before .before .before .before .before .before .before .before .before .before .before .before .before .before .is-whole .ensures) ∙ not-false _ (c .before .before .before .before .before .before .before .before .before .before .before .before .before .before .before .before .before .if1 .left)) (c .before .before .before .before .before .before .before .before .before .before .before .before .before .before .before .before .length-at .ensures .1) (c .before .before .before .before .before .before .before .before .before .before .before .before .before .before .before .length-at2 .ensures .1) (c .before .before .before .before .before .before .before .before .before .before .before .before .before .before .length-at3 .ensures .1) (c .before .before .before .before .before .before .before .before .before .before .before .before .before .length-at4 .ensures .1) (c .before .before .before .before .before .before .before .before .before .before .before .before .before .before .before .before .length-at .ensures .0) (c .before .before .before .before .before .before .before .before .before .before .before .before .before .before .before .length-at2 .ensures .0) (c .before .before .before .before .before .before .before .before .before .before .before .bytes .ensures) (c .before .before .before .before .before .before .before .before .bytes2 .ensures) (length-take-le _ _ (c .before .before .before .before .before .before .before .before .before .before .before .before .before .before .length-at3 .ensures .0)) (length-take-le _ _ (c .before .before .before .before .before .before .before .before .before .before .before .before .before .length-at4 .ensures .0))
 
 pub call-agrees-spec : {M : Type 1} → statement M
 call-agrees-spec =
     tie.close
     (tie.spec
+    is-whole-requires
+    returns
     length-at-requires
     length-at-requires-2
     length-at-requires-3
     length-at-requires-4
-    add-at
-    add-at-2
-    is-whole-requires
-    returns
     slice-aggregate-bytes
     bytes-requires
     add-bytes
     slice-aggregate-bytes-2
     bytes-requires-2
+    add-called
+    add-called-2
     array-share-prefix-template
     slice-aggregate-called
     array-share-prefix-input

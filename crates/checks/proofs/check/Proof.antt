@@ -38,12 +38,12 @@ returns-6 : tie.Need-returns-6
 unfolding checkOf
 returns-6 c = sym (pick-false _ _ _ (le-ltb _ _ (c .before .before .before .before .before .if1 .left)) ∙ pick-false _ _ _ (le-ltb _ _ (c .before .before .before .before .if2 .left)) ∙ pick-false _ _ _ (ne-eqb _ _ (c .before .before .before .if3 .left)) ∙ pick-false _ _ _ (ne-eqb _ _ (c .before .before .if4 .left)) ∙ pick-true _ _ _ (eq-eqb _ _ (c .before .if5 .left)) ∙ pick-false _ _ _ (ne-eqb _ _ (c .if6 .taken)))
 
-settled-requires : tie.Need-settled-requires
-settled-requires c κs = search needs
+limits-requires : tie.Need-limits-requires
+limits-requires c κs = search needs
 
 returns-7 : tie.Need-returns-7
 unfolding checkOf
-returns-7 c = c .settled .ensures ∙ sym (pick-false _ _ _ (le-ltb _ _ (c .before .before .before .before .before .before .if1 .left)) ∙ pick-false _ _ _ (le-ltb _ _ (c .before .before .before .before .before .if2 .left)) ∙ pick-false _ _ _ (ne-eqb _ _ (c .before .before .before .before .if3 .left)) ∙ pick-false _ _ _ (ne-eqb _ _ (c .before .before .before .if4 .left)) ∙ pick-true _ _ _ (eq-eqb _ _ (c .before .before .if5 .left)) ∙ pick-true _ _ _ (eq-eqb _ _ (c .before .if6 .left)))
+returns-7 c = c .limits .ensures ∙ sym (pick-false _ _ _ (le-ltb _ _ (c .before .before .before .before .before .before .if1 .left)) ∙ pick-false _ _ _ (le-ltb _ _ (c .before .before .before .before .before .if2 .left)) ∙ pick-false _ _ _ (ne-eqb _ _ (c .before .before .before .before .if3 .left)) ∙ pick-false _ _ _ (ne-eqb _ _ (c .before .before .before .if4 .left)) ∙ pick-true _ _ _ (eq-eqb _ _ (c .before .before .if5 .left)) ∙ pick-true _ _ _ (eq-eqb _ _ (c .before .if6 .left)))
 
 pub check-spec : {M : Type 1} → statement M
 check-spec =
@@ -57,5 +57,5 @@ check-spec =
     returns-5
     mul-if6
     returns-6
-    settled-requires
+    limits-requires
     returns-7)

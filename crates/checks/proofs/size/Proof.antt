@@ -15,14 +15,14 @@ resized-requires c κs = search needs
 mul-result : tie.Need-mul-result
 mul-result c =
     let e = c .before .resized .ensures in
-    sides-fit _ _ (e .2) (e .4)
+    sides-fit _ _ (e .1 .w-most) (e .1 .h-most)
 
 returns : tie.Need-returns
 returns c =
     let r = c .before in
     let e = r .resized .ensures in
     let a = r .before .before .args in
-    (size-is _ (a .w) (a .h) _ _ (e .0) (r .before .edge .ensures), mul-le-mul (e .2) (e .4))
+    (size-is _ (a .w) (a .h) _ _ (e .0) (r .before .edge .ensures), mul-le-mul (e .1 .w-most) (e .1 .h-most))
 
 pub size-spec : {M : Type 1} → statement M
 size-spec = tie.close (tie.spec edge-requires resized-requires mul-result returns)

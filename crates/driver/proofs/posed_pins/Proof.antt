@@ -1,4 +1,4 @@
--- `driver::posed_pins` meets its contract: the products that it hands to `held` give the numbers of the exact products. Assumes nothing.
+-- `driver::posed_pins` meets its contract: the products that it hands to `capped` give the numbers of the exact products. Assumes nothing.
 use mathlib.Core.Path.{_≡_, sym, _∙_, subst}
 use mathlib.Core.Bool.{Bool, true, false, _&&_}
 use Prim.Native.Nat.{ℕ, _^_, _<_}
@@ -85,17 +85,17 @@ returns-3 c =
     let f = c .before .before in
     c .still3 .ensures ∙ still-is _ _ _ (third-fails _ _ _ (is-theta (f .before .before .before)) (is-tx (f .before)) (sym (f .is-finite3 .ensures) ∙ not-true _ (c .before .if3 .taken)))
 
-held-requires : tie.Need-held-requires
+capped-requires : tie.Need-capped-requires
 unfolding ofBits
-held-requires c κs = times-number (c .before .before .before .before .before .before .args .tx) 8 (subst T (sym (is-tx (c .before .before))) tt)
+capped-requires c κs = times-number (c .before .before .before .before .before .before .args .tx) 8 (subst T (sym (is-tx (c .before .before))) tt)
 
-held-requires-2 : tie.Need-held-requires-2
+capped-requires-2 : tie.Need-capped-requires-2
 unfolding ofBits
-held-requires-2 c κs = times-number (c .before .before .before .before .before .before .before .args .ty) 8 (subst T (sym (is-ty (c .before))) tt)
+capped-requires-2 c κs = times-number (c .before .before .before .before .before .before .before .args .ty) 8 (subst T (sym (is-ty (c .before))) tt)
 
-held-requires-3 : tie.Need-held-requires-3
+capped-requires-3 : tie.Need-capped-requires-3
 unfolding ofBits
-held-requires-3 c κs =
+capped-requires-3 c κs =
     times-number (c .before .before .before .before .before .before .before .before .args .theta) 13 (subst T (sym (is-theta (c .before .before .before .before .before .before))) tt)
 
 returns-4 : tie.Need-returns-4
@@ -107,9 +107,9 @@ returns-4 c =
     let tx : finite (s .args .tx) ≡ true = is-tx (e .before .before) in
     let ty : finite (s .args .ty) ≡ true = is-ty e in
     rw (
-      pin-is (s .args .tx) 8 _ (s .good .1 .0 .1) tx (c .before .before .held .ok) (c .before .before .held .ensures),
-      pin-is (s .args .ty) 8 _ (s .good .1 .1 .0 .1) ty (c .before .held2 .ok) (c .before .held2 .ensures),
-      pin-is (s .args .theta) 13 _ (s .good .0 .1) theta (c .held3 .ok) (c .held3 .ensures),
+      pin-is (s .args .tx) 8 _ (s .good .1 .0 .1) tx (c .before .before .capped .ok) (c .before .before .capped .ensures),
+      pin-is (s .args .ty) 8 _ (s .good .1 .1 .0 .1) ty (c .before .capped2 .ok) (c .before .capped2 .ensures),
+      pin-is (s .args .theta) 13 _ (s .good .0 .1) theta (c .capped3 .ok) (c .capped3 .ensures),
     )
     (sym (pick-true _ _ _ (all-pass _ _ _ theta tx ty)))
 
@@ -126,7 +126,7 @@ posed-pins-spec =
     is-finite-requires-3
     still-requires-3
     returns-3
-    held-requires
-    held-requires-2
-    held-requires-3
+    capped-requires
+    capped-requires-2
+    capped-requires-3
     returns-4)

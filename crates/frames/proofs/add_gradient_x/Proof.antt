@@ -6,7 +6,7 @@ use denote.Ref.{now}
 use lib.ListN.{length}
 use Rattle.lists.proofs.Images.{step-back}
 use Rattle.gradients.specs.Gradients.{gradientX}
-use Rattle.frames.proofs.Ready.{length-gradient-x}
+use Rattle.gradients.proofs.Sizes.{length-gradient-x}
 use Rattle.frames.proofs.add_gradient_x.Statement.{statement}
 use Rattle.frames.proofs.add_gradient_x.Tie as tie
 

@@ -6,7 +6,7 @@ use denote.Ref.{now}
 use lib.ListN.{length}
 use Rattle.lists.proofs.Images.{step-back}
 use Rattle.gradients.specs.Gradients.{gradientY}
-use Rattle.frames.proofs.Ready.{length-gradient-y}
+use Rattle.gradients.proofs.Sizes.{length-gradient-y}
 use Rattle.frames.proofs.add_gradient_y.Statement.{statement}
 use Rattle.frames.proofs.add_gradient_y.Tie as tie
 

@@ -8,14 +8,14 @@ use denote.Ref.{now}
 use lib.ListN.{length}
 use Rattle.lists.specs.Lists.{grid, put, image, setImage}
 use Rattle.lists.proofs.Fill.{rows-none, row-in}
-use Rattle.gradients.specs.Gradients.{prevOf, nextOf, gradientX}
+use Rattle.gradients.specs.Gradients.{beforeOf, afterOf, gradientX}
 use Rattle.lists.proofs.Every.{sides-fit}
 use Rattle.gradients.proofs.Rows.{halfOf, row-more}
 use Rattle.gradients.proofs.gradient_x.Statement.{statement}
 use Rattle.gradients.proofs.gradient_x.Tie as tie
 
 abbrev Inv-loop : tie.InvT-loop
-Inv-loop part₀ w h n y₀ part y = (y ≤ h) × (length part ≡ length part₀) × (part ≡ put part₀ n (grid w y (λ x y. halfOf (image n 0 part₀) (y * w + nextOf w x) (y * w + prevOf x))))
+Inv-loop part₀ w h n y₀ part y = (y ≤ h) × (length part ≡ length part₀) × (part ≡ put part₀ n (grid w y (λ x y. halfOf (image n 0 part₀) (y * w + afterOf w x) (y * w + beforeOf x))))
 
 abbrev μ-loop : tie.MeasureT-loop
 μ-loop part₀ w h n y₀ part y = h - y
@@ -51,7 +51,7 @@ loop-again c =
     let k = room (d .before .before) in (
       omega arith,
       omega (arith, d .gradient-x-row .kept .0),
-      row-more (now (a .part)) (a .w * a .h) (a .w * a .h) (a .w) y (λ x y. y * a .w + nextOf (a .w) x) (λ x y. y * a .w + prevOf x) (omega arith) _ _ (l .loop .inv .2) (d .gradient-x-row .ensures),
+      row-more (now (a .part)) (a .w * a .h) (a .w * a .h) (a .w) y (λ x y. y * a .w + afterOf (a .w) x) (λ x y. y * a .w + beforeOf x) (omega arith) _ _ (l .loop .inv .2) (d .gradient-x-row .ensures),
     )
 
 same-length : tie.Need-same-length Inv-loop μ-loop

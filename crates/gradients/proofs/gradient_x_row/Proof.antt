@@ -4,7 +4,7 @@ use native.Mathlib.Omega.{arith}
 use borrow.Author.Needs.{needs}
 use denote.Ref.{now}
 use Rattle.lists.proofs.Fill.{fill-none}
-use Rattle.gradients.specs.Gradients.{prevOf, nextOf}
+use Rattle.gradients.specs.Gradients.{beforeOf, afterOf}
 use Rattle.gradients.proofs.Rows.{run-on}
 use Rattle.gradients.proofs.gradient_x_row.Statement.{statement}
 use Rattle.gradients.proofs.gradient_x_row.Tie as tie
@@ -22,8 +22,8 @@ returns : tie.Need-returns
 returns c =
     let a = c .before .before .before .before .before .before .args in
     let xs = now (a .part) in
-    let r : ℕ → ℕ = λ x. a .at + nextOf (a .w) x in
-    let l : ℕ → ℕ = λ x. a .at + prevOf x in
+    let r : ℕ → ℕ = λ x. a .at + afterOf (a .w) x in
+    let l : ℕ → ℕ = λ x. a .at + beforeOf x in
     run-on xs (a .n + a .at) r l 0 1 (a .w) _ _ _ (omega arith) xs _ (fill-none xs _ _) (c .before .before .half-differences .ensures)
 
 add-last : tie.Need-add-last
@@ -67,8 +67,8 @@ returns-2 c =
     let a = d2 .before .before .before .before .args in
     let xs = now (a .part) in
     let to = a .n + a .at in
-    let r : ℕ → ℕ = λ x. a .at + nextOf (a .w) x in
-    let l : ℕ → ℕ = λ x. a .at + prevOf x in
+    let r : ℕ → ℕ = λ x. a .at + afterOf (a .w) x in
+    let l : ℕ → ℕ = λ x. a .at + beforeOf x in
     run-on xs to r l (a .w - 1) 1 (a .w) _ _ _ (omega arith) _ _
     (run-on xs to r l 1 (a .w - 2) (a .w - 1) _ _ _ (omega arith) _ _
     (run-on xs to r l 0 1 1 _ _ _ (omega arith) xs _ (fill-none xs _ _) (d2 .half-differences2 .ensures))

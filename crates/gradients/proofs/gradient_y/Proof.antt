@@ -7,14 +7,14 @@ use denote.Ref.{now}
 use lib.ListN.{length}
 use Rattle.lists.specs.Lists.{grid, put, image, setImage}
 use Rattle.lists.proofs.Fill.{rows-none, row-in}
-use Rattle.gradients.specs.Gradients.{prevOf, nextOf, gradientY}
+use Rattle.gradients.specs.Gradients.{beforeOf, afterOf, gradientY}
 use Rattle.lists.proofs.Every.{sides-fit}
 use Rattle.gradients.proofs.Rows.{halfOf, row-more}
 use Rattle.gradients.proofs.gradient_y.Statement.{statement}
 use Rattle.gradients.proofs.gradient_y.Tie as tie
 
 abbrev Inv-loop : tie.InvT-loop
-Inv-loop part₀ w h n y₀ part y = (y ≤ h) × (length part ≡ length part₀) × (part ≡ put part₀ (2 * n) (grid w y (λ x y. halfOf (image n 0 part₀) (nextOf h y * w + x) (prevOf y * w + x))))
+Inv-loop part₀ w h n y₀ part y = (y ≤ h) × (length part ≡ length part₀) × (part ≡ put part₀ (2 * n) (grid w y (λ x y. halfOf (image n 0 part₀) (afterOf h y * w + x) (beforeOf y * w + x))))
 
 abbrev μ-loop : tie.MeasureT-loop
 μ-loop part₀ w h n y₀ part y = h - y
@@ -73,11 +73,11 @@ loop-again c =
     let a = l .before .before .args in
     let n = a .w * a .h in
     let k = rows b in
-    let e : nextOf (a .h) (l .loop .y) ≡ b .row-below .result = omega arith in
-    let e' : prevOf (l .loop .y) ≡ b .before .row-above .result = omega arith in (
+    let e : afterOf (a .h) (l .loop .y) ≡ b .row-below .result = omega arith in
+    let e' : beforeOf (l .loop .y) ≡ b .before .row-above .result = omega arith in (
       omega arith,
       omega (arith, d .half-differences .kept .0),
-      row-more (now (a .part)) (2 * n) n (a .w) (l .loop .y) (λ x y. nextOf (a .h) y * a .w + x) (λ x y. prevOf y * a .w + x) (omega arith, omega arith, λ x h. (rw e (omega arith), rw e' (omega arith))) _ _ (l .loop .inv .2) (rw (e, e') (d .half-differences .ensures)),
+      row-more (now (a .part)) (2 * n) n (a .w) (l .loop .y) (λ x y. afterOf (a .h) y * a .w + x) (λ x y. beforeOf y * a .w + x) (omega arith, omega arith, λ x h. (rw e (omega arith), rw e' (omega arith))) _ _ (l .loop .inv .2) (rw (e, e') (d .half-differences .ensures)),
     )
 
 same-length : tie.Need-same-length Inv-loop μ-loop

@@ -24,7 +24,7 @@ returns c =
     let stored = divided .before .before .before .before in
     let s = stored .before .before .before .before in
     divided .divide .ensures
-    ∙ kernel-is (s .args .ksize) (now (s .args .k)) (stored .weights .last .1 .1 .0) (stored .weights .result) (s .pre .3) (stored .weights .ensures .0) (stored .weights .ensures .1)
+    ∙ kernel-is (s .args .ksize) (now (s .args .k)) (stored .weights .last .1 .1 .0) (stored .weights .result) (s .pre .2) (stored .weights .ensures .0) (stored .weights .ensures .1)
 
 pub gaussian-kernel-spec : {M : Type 1} → statement M
 gaussian-kernel-spec =

@@ -33,7 +33,7 @@ exp-neg-requires : tie.Need-exp-neg-requires
 exp-neg-requires c κs =
     let s = c .before .before in
     let x = c .before .off .result in
-    subst (λ (e : Float). UpTo e 6 1) (sym (exponent-is c)) (exponent-up-to (s .args .ksize) x (s .pre .1) (s .pre .2) (omega arith))
+    subst (λ (e : Float). UpTo e 6 1) (sym (exponent-is c)) (exponent-up-to (s .args .ksize) x (s .pre .1 .most) (s .pre .1 .odd) (omega arith))
 
 returns : tie.Need-returns
 unfolding weightOf

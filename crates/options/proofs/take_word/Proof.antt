@@ -2,7 +2,7 @@
 use mathlib.Core.Path.{sym, _∙_}
 use borrow.Author.Needs.{needs}
 use Rattle.lists.proofs.Cases.{pick-true, pick-false}
-use Rattle.options.specs.Words.{begins, takenOf}
+use Rattle.options.specs.Words.{begins, wordOf}
 use Rattle.options.proofs.take_word.Statement.{statement}
 use Rattle.options.proofs.take_word.Tie as tie
 
@@ -16,7 +16,7 @@ with-eps-requires : tie.Need-with-eps-requires
 with-eps-requires c κs = search needs
 
 returns : tie.Need-returns
-unfolding takenOf
+unfolding wordOf
 returns c = c .with-eps .ensures ∙ sym (pick-true _ _ _ (sym (c .before .before .begins .ensures) ∙ c .before .if1 .taken))
 
 slice-aggregate-begins-2 : tie.Need-slice-aggregate-begins-2
@@ -29,7 +29,7 @@ with-passes-requires : tie.Need-with-passes-requires
 with-passes-requires c κs = search needs
 
 returns-2 : tie.Need-returns-2
-unfolding takenOf
+unfolding wordOf
 returns-2 c = c .with-passes .ensures ∙ sym (pick-false _ _ _ (sym (c .before .before .before .before .before .begins .ensures) ∙ c .before .before .before .before .if1 .left) ∙ pick-true _ _ _ (sym (c .before .before .begins2 .ensures) ∙ c .before .if2 .taken))
 
 slice-aggregate-begins-3 : tie.Need-slice-aggregate-begins-3
@@ -42,7 +42,7 @@ with-filter-requires : tie.Need-with-filter-requires
 with-filter-requires c κs = search needs
 
 returns-3 : tie.Need-returns-3
-unfolding takenOf
+unfolding wordOf
 returns-3 c = c .with-filter .ensures ∙ sym (pick-false _ _ _ (sym (c .before .before .before .before .before .before .before .before .begins .ensures) ∙ c .before .before .before .before .before .before .before .if1 .left) ∙ pick-false _ _ _ (sym (c .before .before .before .before .before .begins2 .ensures) ∙ c .before .before .before .before .if2 .left) ∙ pick-true _ _ _ (sym (c .before .before .begins3 .ensures) ∙ c .before .if3 .taken))
 
 slice-aggregate-begins-4 : tie.Need-slice-aggregate-begins-4
@@ -55,7 +55,7 @@ with-edge-requires : tie.Need-with-edge-requires
 with-edge-requires c κs = search needs
 
 returns-4 : tie.Need-returns-4
-unfolding takenOf
+unfolding wordOf
 returns-4 c = c .with-edge .ensures ∙ sym (pick-false _ _ _ (sym (c .before .before .before .before .before .before .before .before .before .before .before .begins .ensures) ∙ c .before .before .before .before .before .before .before .before .before .before .if1 .left) ∙ pick-false _ _ _ (sym (c .before .before .before .before .before .before .before .before .begins2 .ensures) ∙ c .before .before .before .before .before .before .before .if2 .left) ∙ pick-false _ _ _ (sym (c .before .before .before .before .before .begins3 .ensures) ∙ c .before .before .before .before .if3 .left) ∙ pick-true _ _ _ (sym (c .before .before .begins4 .ensures) ∙ c .before .if4 .taken))
 
 slice-aggregate-begins-5 : tie.Need-slice-aggregate-begins-5
@@ -65,11 +65,11 @@ begins-requires-5 : tie.Need-begins-requires-5
 begins-requires-5 c κs = search needs
 
 returns-5 : tie.Need-returns-5
-unfolding takenOf
+unfolding wordOf
 returns-5 c = sym (pick-false _ _ _ (sym (c .before .before .before .before .before .before .before .before .before .before .before .before .before .begins .ensures) ∙ c .before .before .before .before .before .before .before .before .before .before .before .before .if1 .left) ∙ pick-false _ _ _ (sym (c .before .before .before .before .before .before .before .before .before .before .begins2 .ensures) ∙ c .before .before .before .before .before .before .before .before .before .if2 .left) ∙ pick-false _ _ _ (sym (c .before .before .before .before .before .before .before .begins3 .ensures) ∙ c .before .before .before .before .before .before .if3 .left) ∙ pick-false _ _ _ (sym (c .before .before .before .before .begins4 .ensures) ∙ c .before .before .before .if4 .left) ∙ pick-true _ _ _ (sym (c .before .begins5 .ensures) ∙ c .if5 .taken))
 
 returns-6 : tie.Need-returns-6
-unfolding takenOf
+unfolding wordOf
 returns-6 c = sym (pick-false _ _ _ (sym (c .before .before .before .before .before .before .before .before .before .before .before .before .before .begins .ensures) ∙ c .before .before .before .before .before .before .before .before .before .before .before .before .if1 .left) ∙ pick-false _ _ _ (sym (c .before .before .before .before .before .before .before .before .before .before .begins2 .ensures) ∙ c .before .before .before .before .before .before .before .before .before .if2 .left) ∙ pick-false _ _ _ (sym (c .before .before .before .before .before .before .before .begins3 .ensures) ∙ c .before .before .before .before .before .before .if3 .left) ∙ pick-false _ _ _ (sym (c .before .before .before .before .begins4 .ensures) ∙ c .before .before .before .if4 .left) ∙ pick-false _ _ _ (sym (c .before .begins5 .ensures) ∙ c .if5 .left))
 
 pub take-word-spec : {M : Type 1} → statement M

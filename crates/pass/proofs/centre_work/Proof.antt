@@ -32,7 +32,7 @@ returns c =
     let g = z .before .before .before .before in
     let a = g .args in
     let q = z .centered-stats-in-place .ensures in
-    let f = g .pre .2 in
+    let f = g .pre .2 .images in
     (centre-back (now (a .marks)) (a .n) (now (a .work)) f _ (q .images), stats-back (now (a .marks)) (a .n) (now (a .work)) f _ (q .answer))
 
 pub centre-work-spec : {M : Type 1} → statement M

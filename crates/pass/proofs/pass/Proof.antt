@@ -26,10 +26,10 @@ begun z = mapped z .before .before .before .before .before .before
 kept : (z : tie.After-warp-work) → let a = begun z .args in Kept (a .w * a .h) (now (a .work)) (z .warp-work .last .0)
 kept z =
     let a = begun z .args in
-    kept-warp (mapped z .affine-from-theta-tx-ty .result) (a .w) (a .h) (now (a .work)) (begun z .pre .4) _ (z .warp-work .ensures .0)
+    kept-warp (mapped z .affine-from-theta-tx-ty .result) (a .w) (a .h) (now (a .work)) (begun z .pre .1 .images) _ (z .warp-work .ensures .0)
 
 stay : (z : tie.After-warp-work) → let a = begun z .args in KeptMarks (a .w * a .h) (now (a .marks)) (z .warp-work .last .1 .0)
-stay z = kept-marks _ _ _ _ _ (z .warp-work .ensures .1 .0) (begun z .pre .5)
+stay z = kept-marks _ _ _ _ _ (z .warp-work .ensures .1 .0) (begun z .pre .1 .places)
 
 mul-n : tie.Need-mul-n
 mul-n c = search needs
@@ -73,7 +73,7 @@ weigh-requires c κs =
     let z = warped (c .before .before .before) in
     let q = begun z .pre in
     let m = z .warp-work .ensures .1 in
-    (q .0, q .1, q .2, q .3, omega (arith, kept z .size, q .4), omega (arith, length-front _ _ _ _ _ (m .0)), count-front _ _ _ _ _ (m .0) _ (m .1), q .9)
+    (q .0, record { images = omega (arith, kept z .size, q .1 .images); places = omega (arith, length-front _ _ _ _ _ (m .0)) }, count-front _ _ _ _ _ (m .0) _ (m .1), q .3)
 
 same-length-6 : tie.Need-same-length-6
 same-length-6 c = search needs
@@ -99,7 +99,7 @@ returns-2 c =
     let m = z .warp-work .ensures in (
       enough-marks _ _ _ _ _ _ _ _ _ _ (mapped z .affine-from-theta-tx-ty .ensures) _ (m .1 .1) (e .if1 .left)
           _
-          (weighed-there (mapped z .affine-from-theta-tx-ty .result) (a .w) (a .h) (now (a .work)) (begun z .pre .4) _ (m .0) _ (front _ _ _ _ _ (m .1 .0)) (a .eps) (a .at) (a .last) _ (v .weigh .ensures .0)),
+          (weighed-there (mapped z .affine-from-theta-tx-ty .result) (a .w) (a .h) (now (a .work)) (begun z .pre .1 .images) _ (m .0) _ (front _ _ _ _ _ (m .1 .0)) (a .eps) (a .at) (a .last) _ (v .weigh .ensures .0)),
       (kept-kept (kept z) (v .weigh .ensures .1), stay z),
     )
 

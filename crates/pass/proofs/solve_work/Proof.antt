@@ -35,7 +35,7 @@ returns c =
     let g = z .before .before .before .before in
     let a = g .args in
     let q = z .solve .ensures in
-    let f = g .pre .4 in (
+    let f = g .pre .1 .images in (
       steep-back (now (a .marks)) (a .w) (a .h) (a .at) (a .s) (a .rho) (now (a .work)) f _ (q .0),
       solve-back (now (a .marks)) (a .w) (a .h) (a .at) (a .s) (a .rho) (now (a .work)) f _ (q .1),
     )

@@ -14,7 +14,7 @@ kept : (z : tie.After-centre-work) → let a = z .before .before .before .before
 kept z =
     let g = z .before .before .before .before in
     let a = g .args in
-    kept-centre (now (a .marks)) (a .w) (a .h) (now (a .work)) (g .pre .4) _ (z .centre-work .ensures .0)
+    kept-centre (now (a .marks)) (a .w) (a .h) (now (a .work)) (g .pre .1 .images) _ (z .centre-work .ensures .0)
 
 mul-n : tie.Need-mul-n
 mul-n c = search needs
@@ -22,7 +22,7 @@ mul-n c = search needs
 centre-work-requires : tie.Need-centre-work-requires
 centre-work-requires c κs =
     let g = c .before .before .before in
-    (mul-le-mul (g .pre .1) (g .pre .3), g .pre .6, g .pre .4, g .pre .5)
+    (mul-le-mul (g .pre .0 .w-most) (g .pre .0 .h-most), g .pre .2, g .pre .1)
 
 judge-requires : tie.Need-judge-requires
 judge-requires c κs = search needs
@@ -70,8 +70,8 @@ returns-3 c =
     let a = g .args in
     let q = z .centre-work .ensures in (
       on-unsettled _ _ _ _ _ _ _ _ _ _ _ (q .1) _ (j .judge .ensures) _ (k .rho2 .given .1) _
-          (solved-there (now (a .marks)) (a .w) (a .h) (now (a .work)) (g .pre .4) _ (q .0) (a .at) _ _ _ (v .solve-work .ensures .1)),
-      kept-solve (now (a .marks)) (a .w) (a .h) (now (a .work)) (g .pre .4) _ (q .0) _ _ (v .solve-work .ensures .0),
+          (solved-there (now (a .marks)) (a .w) (a .h) (now (a .work)) (g .pre .1 .images) _ (q .0) (a .at) _ _ _ (v .solve-work .ensures .1)),
+      kept-solve (now (a .marks)) (a .w) (a .h) (now (a .work)) (g .pre .1 .images) _ (q .0) _ _ (v .solve-work .ensures .0),
     )
 
 pub weigh-spec : {M : Type 1} → statement M

@@ -6,7 +6,7 @@ use lib.ListN.{length}
 use Rattle.lists.specs.Lists.{put}
 use Rattle.lists.proofs.Put.{put-none}
 use Rattle.pgm.specs.declared.Header.{Header}
-use Rattle.pgm.specs.Frame.{answerOf, recordOf}
+use Rattle.pgm.specs.Frame.{madeOf, recordOf}
 use Rattle.pgm.proofs.Right.{Right, sides, right}
 use Rattle.pgm.proofs.put_frame.Statement.{statement}
 use Rattle.pgm.proofs.put_frame.Tie as tie
@@ -24,11 +24,11 @@ put-read-requires : tie.Need-put-read-requires
 put-read-requires c κs = sides _ _ _ _ _ (subst Right (sym (c .before .before .before .before .read-header .ensures) ∙ c .before .before .found2 .given .1) (right (now (c .before .before .before .before .before .before .before .args .s))))
 
 returns : tie.Need-returns
-unfolding answerOf recordOf
+unfolding madeOf recordOf
 returns c =
     let g = c .before .before .before .before .before .before .args in
     let e = sym (c .before .before .before .read-header .ensures) ∙ c .before .found .given .1 in
-    (sym (ap (answerOf (now (g .s)) (length (now (g .out)))) e), sym (ap (λ (z : Header). put (now (g .out)) 0 (recordOf (now (g .s)) (length (now (g .out))) z)) e ∙ put-none (now (g .out)) 0))
+    (sym (ap (madeOf (now (g .s)) (length (now (g .out)))) e), sym (ap (λ (z : Header). put (now (g .out)) 0 (recordOf (now (g .s)) (length (now (g .out))) z)) e ∙ put-none (now (g .out)) 0))
 
 same-length : tie.Need-same-length
 same-length c = search needs
@@ -38,7 +38,7 @@ returns-2 c =
     let g = c .before .before .before .before .before .before .before .before .before .before .args in
     let e = sym (c .before .before .before .before .before .before .before .read-header .ensures) ∙ c .before .before .before .before .before .found2 .given .1 in
     let p = c .before .before .put-read in
-    (p .ensures .0 ∙ sym (ap (answerOf (now (g .s)) (length (now (g .out)))) e), p .ensures .1 ∙ sym (ap (λ (z : Header). put (now (g .out)) 0 (recordOf (now (g .s)) (length (now (g .out))) z)) e))
+    (p .ensures .0 ∙ sym (ap (madeOf (now (g .s)) (length (now (g .out)))) e), p .ensures .1 ∙ sym (ap (λ (z : Header). put (now (g .out)) 0 (recordOf (now (g .s)) (length (now (g .out))) z)) e))
 
 pub put-frame-spec : {M : Type 1} → statement M
 put-frame-spec =

@@ -1,4 +1,4 @@
--- `places::place_of` meets its contract. Outside, the point is held to 0, so that its whole parts are small all the same. Assumes nothing.
+-- `places::place_of` meets its contract. Outside, the point is taken as 0, so that its whole parts are small all the same. Assumes nothing.
 use Prim.Native.Nat.{_+_, _*_}
 use mathlib.Core.Path.{_≡_, ap, ap₂, _∙_}
 use mathlib.Core.Bool.{Bool}
@@ -9,39 +9,38 @@ use lib.Ieee.{Float, binary32, inUnsigned, toUnsigned}
 use Rattle.lists.specs.Marked.{pick}
 use Rattle.floats.specs.F32.{_⊕_, _⊖_, _⊗_, f32, 0f}
 use Rattle.numbers.proofs.Small.{Below}
-use Rattle.places.specs.Point.{inside, markedAt}
-use Rattle.places.specs.Places.{indexOf}
-use Rattle.places.proofs.Point.{heldX, heldY, held-x, held-y, spot-is, place-of}
+use Rattle.places.specs.Point.{inside, markedAt, indexOf}
+use Rattle.places.proofs.Point.{zeroedX, zeroedY, zeroed-x, zeroed-y, spot-is, place-of}
 use Rattle.places.proofs.place_of.Statement.{statement}
 use Rattle.places.proofs.place_of.Tie as tie
 
--- ---- the point, held to 0 outside
+-- ---- the point, taken as 0 outside
 abbrev marked : tie.Start → Bool
 marked s = let a = s .args in markedAt (a .map) (a .w) (a .h) (a .x) (a .y)
 
 abbrev tx : tie.Start → Float
-tx s = let a = s .args in heldX (a .map) (a .w) (a .h) (a .x) (a .y)
+tx s = let a = s .args in zeroedX (a .map) (a .w) (a .h) (a .x) (a .y)
 
 abbrev ty : tie.Start → Float
-ty s = let a = s .args in heldY (a .map) (a .w) (a .h) (a .x) (a .y)
+ty s = let a = s .args in zeroedY (a .map) (a .w) (a .h) (a .x) (a .y)
 
 below-x : (s : tie.Start) → Below (tx s) 4096
-below-x s = let a = s .args in held-x (a .map) (a .w) (a .h) (a .x) (a .y) (omega arith) (omega arith)
+below-x s = let a = s .args in zeroed-x (a .map) (a .w) (a .h) (a .x) (a .y) (omega arith) (omega arith)
 
 below-y : (s : tie.Start) → Below (ty s) 4096
-below-y s = let a = s .args in held-y (a .map) (a .w) (a .h) (a .x) (a .y) (omega arith) (omega arith)
+below-y s = let a = s .args in zeroed-y (a .map) (a .w) (a .h) (a .x) (a .y) (omega arith) (omega arith)
 
-within-is : (c : tie.After-held2) → c .before .before .is-inside .result ≡ marked (c .before .before .before .before .before)
+within-is : (c : tie.After-or-zero2) → c .before .before .is-inside .result ≡ marked (c .before .before .before .before .before)
 unfolding markedAt
 within-is c =
     let a = c .before .before .before .before .before .args in
     c .before .before .is-inside .ensures ∙ ap₂ (inside (a .w) (a .h)) (c .before .before .before .before .point-x .ensures) (c .before .before .before .point-y .ensures)
 
-x-is : (c : tie.After-held2) → c .before .held .result ≡ tx (c .before .before .before .before .before)
-x-is c = c .before .held .ensures ∙ ap₂ (λ (b : Bool) (s : Float). pick b s 0f) (within-is c) (c .before .before .before .before .point-x .ensures)
+x-is : (c : tie.After-or-zero2) → c .before .or-zero .result ≡ tx (c .before .before .before .before .before)
+x-is c = c .before .or-zero .ensures ∙ ap₂ (λ (b : Bool) (s : Float). pick b s 0f) (within-is c) (c .before .before .before .before .point-x .ensures)
 
-y-is : (c : tie.After-held2) → c .held2 .result ≡ ty (c .before .before .before .before .before)
-y-is c = c .held2 .ensures ∙ ap₂ (λ (b : Bool) (s : Float). pick b s 0f) (within-is c) (c .before .before .before .point-y .ensures)
+y-is : (c : tie.After-or-zero2) → c .or-zero2 .result ≡ ty (c .before .before .before .before .before)
+y-is c = c .or-zero2 .ensures ∙ ap₂ (λ (b : Bool) (s : Float). pick b s 0f) (within-is c) (c .before .before .before .point-y .ensures)
 
 -- ---- its whole parts, and the place that they give
 x0-is : (c : tie.After-floor-small2) → c .before .floor-small .result ≡ f32 (indexOf (tx (c .before .before .before .before .before .before .before)))
@@ -71,11 +70,11 @@ point-y-requires c κs = search needs
 is-inside-requires : tie.Need-is-inside-requires
 is-inside-requires c κs = search needs
 
-held-requires : tie.Need-held-requires
-held-requires c κs = search needs
+or-zero-requires : tie.Need-or-zero-requires
+or-zero-requires c κs = search needs
 
-held-requires-2 : tie.Need-held-requires-2
-held-requires-2 c κs = search needs
+or-zero-requires-2 : tie.Need-or-zero-requires-2
+or-zero-requires-2 c κs = search needs
 
 floor-small-requires : tie.Need-floor-small-requires
 floor-small-requires c κs = rw (x-is c) (below-x (c .before .before .before .before .before) .small)
@@ -111,8 +110,8 @@ place-of-spec =
     point-x-requires
     point-y-requires
     is-inside-requires
-    held-requires
-    held-requires-2
+    or-zero-requires
+    or-zero-requires-2
     floor-small-requires
     floor-small-requires-2
     to-f32-short-requires

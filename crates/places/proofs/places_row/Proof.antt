@@ -22,7 +22,7 @@ loop-holds : tie.Need-loop-holds Inv-loop μ-loop
 loop-holds c =
     let s = c .before .before .before .before in
     let a = s .args in
-    places-start (a .map) (a .w) (a .h) (a .y) (now (a .spots)) (now (a .marks)) (now (a .across)) (now (a .down)) (omega arith) (omega arith) (a .found) (s .pre .8)
+    places-start (a .map) (a .w) (a .h) (a .y) (now (a .spots)) (now (a .marks)) (now (a .across)) (now (a .down)) (omega arith) (omega arith) (a .found) (s .pre .6)
 
 place-of-requires : tie.Need-place-of-requires Inv-loop μ-loop
 place-of-requires c κs = search needs

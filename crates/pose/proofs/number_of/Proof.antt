@@ -1,7 +1,7 @@
 -- `pose::number_of` meets its contract. Assumes nothing.
 use mathlib.Core.Path.{sym, ap}
 use borrow.Author.Needs.{needs}
-use Rattle.pose.specs.Pose.{numberOf}
+use Rattle.pose.specs.Pose.{numberOf, toldOf}
 use Rattle.pose.proofs.number_of.Statement.{statement}
 use Rattle.pose.proofs.number_of.Tie as tie
 
@@ -12,11 +12,11 @@ enum-told : tie.Need-enum-told
 enum-told c = search needs
 
 returns : tie.Need-returns
-unfolding numberOf
+unfolding toldOf
 returns c = sym (ap numberOf (c .before .answer .given .1))
 
 returns-2 : tie.Need-returns-2
-unfolding numberOf
+unfolding toldOf
 returns-2 c = cc
 
 pub number-of-spec : {M : Type 1} → statement M

@@ -4,7 +4,8 @@ use borrow.Author.Needs.{needs}
 use denote.Ref.{now}
 use Rattle.inverse.specs.declared.Matrix3.{Matrix3}
 use Rattle.pose.specs.Pose.{matrixOf}
-use Rattle.boundary.specs.Boundary.{fronted, entriesOf}
+use Rattle.inverse.specs.Inverse.{entriesOf}
+use Rattle.boundary.specs.Boundary.{fronted}
 use Rattle.quayhollow.proofs.quayhollow_matrix.Statement.{statement}
 use Rattle.quayhollow.proofs.quayhollow_matrix.Tie as tie
 

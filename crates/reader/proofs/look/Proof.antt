@@ -33,7 +33,8 @@ returns c =
     let s = c .before .before .before .before .before .before .advance in
     let a = c .before .before .before .before .before .before .before .before .before .before .before .before .before .before .before .args in
     let n = length-take (a .run .end - a .run .at) (drop (a .run .at) (now (a .buf))) in
-    ((s .ensures .0 .0, omega (arith, n, s .ensures .0 .1 .within), s .ensures .0 .1 .one), s .ensures .1 .0)
+    let b = s .ensures .0 .1 in
+    ((s .ensures .0 .0, record { within = omega (arith, n, b .within); one = b .one; few = λ e. omega (arith, n, b .few e) }), s .ensures .1 .0)
 
 pub look-spec : {M : Type 1} → statement M
 look-spec =

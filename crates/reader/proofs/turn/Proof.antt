@@ -4,7 +4,7 @@ use mathlib.Core.Path.{_≡_, subst}
 use mathlib.Core.List.{List}
 use borrow.Author.Needs.{needs}
 use denote.Ref.{now}
-use Rattle.stream.specs.Memory.{storeOf}
+use Rattle.stream.specs.Memory.{steppedStore}
 use Rattle.stream.specs.Stream.{stepOf}
 use Rattle.stream.specs.declared.Step.{Step}
 use Rattle.reader.specs.Run.{Followed, Turned, pending}
@@ -13,9 +13,9 @@ use Rattle.reader.proofs.turn.Statement.{statement}
 use Rattle.reader.proofs.turn.Tie as tie
 
 by-step : (run r : Run) (buf buf′ out out′ store store′ : List ℕ) (k m : ℕ) (s : Step) → s ≡ stepOf (run .state) (pending run buf) store k m →
-    Followed run r s buf buf′ out out′ → store′ ≡ storeOf (run .state) (pending run buf) store → Turned run r buf buf′ out out′ store store′ k m
+    Followed run r s buf buf′ out out′ → store′ ≡ steppedStore (run .state) (pending run buf) store → Turned run r buf buf′ out out′ store store′ k m
 by-step run r buf buf′ out out′ store store′ k m s e f g = record {
-  turned = subst (λ (x : Step). Followed run r x buf buf′ out out′) e f;
+  followed = subst (λ (x : Step). Followed run r x buf buf′ out out′) e f;
   stored = g;
 }
 

@@ -23,7 +23,7 @@ resize-rows-requires c κs =
     let k = c .before .before .before .before .before in
     let s = k .before .before .before .before .before in
     let p = s .pre in
-    (p .0, p .1, p .2, p .3, p .5, p .7, p .8, p .9, k .columns .ensures)
+    (p .0, p .1 .w-most, p .1 .h-most, p .2, p .3, k .columns .ensures)
 
 same-length : tie.Need-same-length
 same-length c = search needs

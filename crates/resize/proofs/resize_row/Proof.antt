@@ -7,14 +7,14 @@ use lib.Ieee.{Float}
 use denote.Ref.{now}
 use Rattle.lists.specs.Lists.{tab, put}
 use Rattle.lists.proofs.Fill.{fill-none, fill-more}
-use Rattle.resize.specs.Resize.{tapOf, sampleOf}
+use Rattle.resize.specs.Resize.{tapOf, bilinearOf}
 use borrow.Author.Needs.{needs}
 use Rattle.resize.proofs.resize_row.Statement.{statement}
 use Rattle.resize.proofs.resize_row.Tie as tie
 
 abbrev Inv-loop : tie.InvT-loop
 Inv-loop src src-w dst-w firsts weights ty out₀ at x₀ out x =
-    (x ≤ dst-w) × (length out ≡ length out₀) × (out ≡ put out₀ at (tab x (λ k. sampleOf src src-w (tapOf src-w dst-w k) ty)))
+    (x ≤ dst-w) × (length out ≡ length out₀) × (out ≡ put out₀ at (tab x (λ k. bilinearOf src src-w (tapOf src-w dst-w k) ty)))
 
 abbrev μ-loop : tie.MeasureT-loop
 μ-loop src src-w dst-w firsts weights ty out₀ at x₀ out x = dst-w - x
@@ -48,7 +48,7 @@ loop-again c =
     let t = c .before in
     let l = t .before .before in
     let a = l .before .before .before .before .before .args in
-    let f : ℕ → Float = λ k. sampleOf (now (a .src)) (a .src-w) (tapOf (a .src-w) (a .dst-w) k) (a .ty) in (
+    let f : ℕ → Float = λ k. bilinearOf (now (a .src)) (a .src-w) (tapOf (a .src-w) (a .dst-w) k) (a .ty) in (
       omega arith,
       simp length-set (l .loop .inv .1),
       rw (l .loop .inv .2) (fill-more (now (a .out)) (a .at) f (l .loop .x) (c .sample .result) (omega arith) (rw (t .column .ensures .0) at (c .sample .ensures))),

@@ -9,13 +9,13 @@ use denote.Ref.{now}
 use borrow.Author.Needs.{needs}
 use Rattle.lists.specs.Lists.{tab, grid, put}
 use Rattle.lists.proofs.Fill.{rows-none, rows-more, row-in}
-use Rattle.resize.specs.Resize.{tapOf, sampleOf, resizeOf}
+use Rattle.resize.specs.Resize.{tapOf, bilinearOf, resizeOf}
 use Rattle.resize.proofs.resize_rows.Statement.{statement}
 use Rattle.resize.proofs.resize_rows.Tie as tie
 
 abbrev Inv-loop : tie.InvT-loop
 Inv-loop src src-w src-h dst-w dst-h firsts weights out₀ y₀ out y =
-    (y ≤ dst-h) × (length out ≡ length out₀) × (out ≡ put out₀ 0 (grid dst-w y (λ x z. sampleOf src src-w (tapOf src-w dst-w x) (tapOf src-h dst-h z))))
+    (y ≤ dst-h) × (length out ≡ length out₀) × (out ≡ put out₀ 0 (grid dst-w y (λ x z. bilinearOf src src-w (tapOf src-w dst-w x) (tapOf src-h dst-h z))))
 
 abbrev μ-loop : tie.MeasureT-loop
 μ-loop src src-w src-h dst-w dst-h firsts weights out₀ y₀ out y = dst-h - y
@@ -41,12 +41,12 @@ resize-row-requires : tie.Need-resize-row-requires Inv-loop μ-loop
 resize-row-requires c κs =
     let t = c .before in
     let s = t .before .before .before .before .before .before .before in (
-      s .pre .0,
+      s .pre .0 .w-least,
+      s .pre .0 .w-most,
       s .pre .1,
-      s .pre .4,
-      s .pre .8,
-      le-trans (row-in (s .args .src-w) (t .tap-at .result .first) (s .args .src-h) (t .tap-at .ensures .1)) (s .pre .6),
-      le-trans (row-in (s .args .src-w) (t .tap-at .result .next) (s .args .src-h) (t .tap-at .ensures .2)) (s .pre .6),
+      s .pre .5,
+      le-trans (row-in (s .args .src-w) (t .tap-at .result .first) (s .args .src-h) (t .tap-at .ensures .1)) (s .pre .3),
+      le-trans (row-in (s .args .src-w) (t .tap-at .result .next) (s .args .src-h) (t .tap-at .ensures .2)) (s .pre .3),
       omega (arith, room (t .before)),
     )
 
@@ -64,7 +64,7 @@ loop-again c =
     let a = l .before .before .before .before .before .args in
     let xs = now (a .out) in
     let y = l .loop .y in
-    let g : ℕ → ℕ → Float = λ x z. sampleOf (now (a .src)) (a .src-w) (tapOf (a .src-w) (a .dst-w) x) (tapOf (a .src-h) (a .dst-h) z) in
+    let g : ℕ → ℕ → Float = λ x z. bilinearOf (now (a .src)) (a .src-w) (tapOf (a .src-w) (a .dst-w) x) (tapOf (a .src-h) (a .dst-h) z) in
     let fits : 0 + y * a .dst-w + a .dst-w ≤ length xs = omega (arith, room (t .before)) in (
       omega arith,
       omega (arith, r .resize-row .kept .1),

@@ -1,5 +1,5 @@
 -- `resize::sample` reads four bytes inside the frame and blends them as it is defined. Assumes nothing.
-use Rattle.resize.specs.Resize.{sampleOf}
+use Rattle.resize.specs.Resize.{bilinearOf}
 use borrow.Author.Needs.{needs}
 use Rattle.resize.proofs.sample.Statement.{statement}
 use Rattle.resize.proofs.sample.Tie as tie
@@ -26,7 +26,7 @@ blend-requires-3 : tie.Need-blend-requires-3
 blend-requires-3 c κs = search needs
 
 returns : tie.Need-returns
-unfolding sampleOf
+unfolding bilinearOf
 returns c =
     let f = c .before .before .before in
     rw (c .blend3 .ensures, c .before .blend2 .ensures, c .before .before .gray4 .ensures, f .gray3 .ensures, f .before .blend .ensures, f .before .before .gray2 .ensures, f .before .before .before .gray .ensures)

@@ -12,6 +12,7 @@ use lib.Ieee.Bits.{ofBits-toBits, toBits-lt}
 use Rattle.floats.proofs.Patterns.{no-nan, number-pattern}
 use Rattle.root.specs.Root.{sqrtOf}
 use Rattle.root.proofs.Patterns.{other-root}
+use Rattle.root.proofs.Nearest.{of-root}
 use Rattle.root.proofs.sqrt.Statement.{statement}
 use Rattle.root.proofs.sqrt.Tie as tie
 
@@ -41,13 +42,13 @@ unfolding div ofBits
 quiet = refl
 
 returns : tie.Need-returns
-returns c = root-nan (c .before .args .x) (c .if1 .taken)
+returns c = of-root _ _ (root-nan (c .before .args .x) (c .if1 .taken))
 
 float-to-bits-b : tie.Need-float-to-bits-b
 float-to-bits-b c = no-nan (c .before .args .x) (c .if1 .left)
 
 returns-2 : tie.Need-returns-2
-returns-2 c = self (c .before .before .args .x) 0 (held (c .before .before)) (c .if2 .taken) (selves .0)
+returns-2 c = of-root _ _ (self (c .before .before .args .x) 0 (held (c .before .before)) (c .if2 .taken) (selves .0))
 
 root-bits-requires : tie.Need-root-bits-requires
 root-bits-requires c κs = search needs
@@ -58,24 +59,25 @@ float-from-bits-result c = number-pattern (c .root-bits .result) (omega arith)
 returns-3 : tie.Need-returns-3
 returns-3 c =
     let start = c .before .before .before .before in
-    of-value (start .args .x) (ofBits binary32 (c .root-bits .result)) (held start) (c .root-bits .ensures .1)
+    of-root _ _ (of-value (start .args .x) (ofBits binary32 (c .root-bits .result)) (held start) (c .root-bits .ensures .1))
 
 returns-4 : tie.Need-returns-4
 returns-4 c =
     let start = c .before .before .before .before in
-    self (start .args .x) 2139095040 (held start) (c .if4 .taken) (selves .1)
+    of-root _ _ (self (start .args .x) 2139095040 (held start) (c .if4 .taken) (selves .1))
 
 returns-5 : tie.Need-returns-5
 returns-5 c =
     let start = c .before .before .before .before .before in
-    self (start .args .x) 2147483648 (held start) (c .if5 .taken) (selves .2)
+    of-root _ _ (self (start .args .x) 2147483648 (held start) (c .if5 .taken) (selves .2))
 
 returns-6 : tie.Need-returns-6
 returns-6 c =
     let start = c .before .before .before .before .before in
     let b = toBits binary32 (start .args .x) in
-    of-value (start .args .x) (div binary32 (ofBits binary32 0) (ofBits binary32 0)) (held start)
-    (quiet ∙ sym (other-root b (toBits-lt binary32 (start .args .x) (held start)) (lt-of-le-ne (c .before .before .if3 .left) (λ (e : 2139095040 ≡ b). c .before .if4 .left (sym e))) (c .if5 .left)))
+    of-root _ _
+    (of-value (start .args .x) (div binary32 (ofBits binary32 0) (ofBits binary32 0)) (held start)
+    (quiet ∙ sym (other-root b (toBits-lt binary32 (start .args .x) (held start)) (lt-of-le-ne (c .before .before .if3 .left) (λ (e : 2139095040 ≡ b). c .before .if4 .left (sym e))) (c .if5 .left))))
 
 pub sqrt-spec : {M : Type 1} → statement M
 sqrt-spec = tie.close (tie.spec returns float-to-bits-b returns-2 root-bits-requires float-from-bits-result returns-3 returns-4 returns-5 returns-6)

@@ -39,7 +39,7 @@ pass-requires : tie.Need-pass-requires Inv-loop μ-loop
 pass-requires c κs =
     let l = c .before .before .before .before .before .before .loop in
     let p = c .before .before .before .before .before .before .before .before .before .before .before .before .pre in
-    (p .0, p .1, p .2, p .3, omega (arith, l .inv .3 .size, p .4), omega (arith, l .inv .4 .size, p .5), omega (arith, l .inv .5, p .6), omega (arith, l .inv .6, p .7), omega (arith, l .inv .7, p .8), l .inv .2)
+    (p .0, record { images = omega (arith, l .inv .3 .size, p .1 .images); places = omega (arith, l .inv .4 .size, p .1 .places) }, record { spots-fit = omega (arith, l .inv .5, p .2 .spots-fit); across-fit = omega (arith, l .inv .6, p .2 .across-fit); down-fit = omega (arith, l .inv .7, p .2 .down-fit) }, l .inv .2)
 
 add-k : tie.Need-add-k Inv-loop μ-loop
 add-k c = search needs

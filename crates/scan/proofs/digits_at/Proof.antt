@@ -3,7 +3,7 @@ use Prim.Native.Nat.{_-_}
 use mathlib.Core.Path.{sym, _∙_}
 use native.Mathlib.Omega.{arith}
 use lib.ListN.{length}
-use Rattle.scan.specs.Scan.{digit}
+use Rattle.scan.specs.Scan.{isDigit}
 use Rattle.scan.proofs.Steps.{digit-low, Read, read-none, read-end, read-stop, read-more}
 use borrow.Author.Needs.{needs}
 use borrow.Author.Tests.{not-true, not-false}

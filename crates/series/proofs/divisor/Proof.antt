@@ -5,7 +5,7 @@ use native.Mathlib.Nat.{mul-le-mul, lt-of-le-of-lt}
 use native.Mathlib.Omega.{arith}
 use borrow.Author.Needs.{needs}
 use lib.Dec.{lit<}
-use Rattle.series.specs.Series.{divisorOf, lastOf}
+use Rattle.series.specs.Series.{divisorOf, lowestOf}
 use Rattle.series.specs.declared.Series.{Series}
 use Rattle.series.proofs.divisor.Statement.{statement}
 use Rattle.series.proofs.divisor.Tie as tie
@@ -22,7 +22,7 @@ mul-result c = search needs
 sub-result : tie.Need-sub-result
 sub-result c =
     let start = c .before .before in
-    omega (arith, subst (λ (s : Series). lastOf s ≤ start .args .k) (c .enum-told .given .1) (start .pre .0))
+    omega (arith, subst (λ (s : Series). lowestOf s ≤ start .args .k) (c .enum-told .given .1) (start .pre .0))
 
 mul-result-2 : tie.Need-mul-result-2
 mul-result-2 c = search needs

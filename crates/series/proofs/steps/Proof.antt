@@ -5,8 +5,8 @@ use native.Mathlib.Nat.{le-trans, le-of-eq}
 use native.Mathlib.Numerals.{add-one}
 use native.Mathlib.Omega.{arith}
 use borrow.Author.Needs.{needs}
-use Rattle.series.specs.Recurrence.{stepOf, stepsOf}
-use Rattle.series.specs.Series.{divisorOf, lastOf}
+use Rattle.series.specs.Recurrence.{uNext, stepsOf}
+use Rattle.series.specs.Series.{divisorOf, lowestOf}
 use Rattle.series.proofs.Recurrence.{steps-le, last-pos, divisor-pos, divisor-le, limit-le, within-divisor}
 use Rattle.series.proofs.steps.Statement.{statement}
 use Rattle.series.proofs.steps.Tie as tie
@@ -33,7 +33,7 @@ step-requires c κs =
     let s = l .before .args .s in
     let z = l .before .args .z in
     let k = l .before .args .top - l .loop .i in
-    let last : lastOf s ≤ k = omega arith in
+    let last : lowestOf s ≤ k = omega arith in
     let d = c .divisor .ensures in (
       le-trans (l .before .pre .0) (limit-le s),
       le-trans (divisor-pos s k last) (le-of-eq (sym d)),
@@ -58,8 +58,8 @@ loop-again c =
     let i = l .loop .i in (
       omega arith,
       c .step .ensures .0
-          ∙ ap (λ (d : ℕ). stepOf z d (l .loop .u)) (c .before .divisor .ensures)
-          ∙ ap (stepOf z (divisorOf s (top - i))) (l .loop .inv .1)
+          ∙ ap (λ (d : ℕ). uNext z d (l .loop .u)) (c .before .divisor .ensures)
+          ∙ ap (uNext z (divisorOf s (top - i))) (l .loop .inv .1)
           ∙ ap (stepsOf (divisorOf s) z top) (sym (add-one i)),
     )
 

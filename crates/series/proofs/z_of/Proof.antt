@@ -4,6 +4,7 @@ use native.Mathlib.Omega.{arith}
 use denote.Floats.{passes}
 use lib.Dec.{T, lit<}
 use lib.Ieee.{binary32, fits}
+use Rattle.lists.specs.Marked.{pick}
 use Rattle.floats.proofs.Within.{within-finite}
 use Rattle.floats.proofs.Values.{finite-number}
 use Rattle.floats.proofs.Patterns.{pattern-lt}
@@ -18,6 +19,7 @@ float-to-bits-square-of : tie.Need-float-to-bits-square-of
 float-to-bits-square-of c = finite-number (c .args .theta) (within-finite (c .args .theta) 2 1 (c .pre))
 
 square-of-requires : tie.Need-square-of-requires
+unfolding pick
 square-of-requires c κs = omega (arith, pattern-lt (c .args .theta) 1073741825 2 1 (held c) (c .pre) (lit< tt))
 
 returns : tie.Need-returns

@@ -23,19 +23,17 @@ returns c =
     let long = long-is (t .before .before) in
     let w = c .before .side .ensures in
     let h = c .side2 .ensures in
-    (rw (w .0, h .0, long) (sym (resized-scaled (s .edge) (s .w) (s .h) (omega arith) (omega arith))), omega arith, w .2, omega arith, h .2)
+    (rw (w .0, h .0, long) (sym (resized-scaled (s .edge) (s .w) (s .h) (omega arith) (omega arith))), record { w-least = omega arith; w-most = w .2; h-least = omega arith; h-most = h .2 })
 
 returns-2 : tie.Need-returns-2
 returns-2 c =
     let s = c .before .before .before in
-    let p = s .pre in
-    (sym (resized-kept (s .args .edge) (s .args .w) (s .args .h) (omega arith) (omega (arith, long-is (c .before .before)))), p .0, p .1, p .2, p .3)
+    (sym (resized-kept (s .args .edge) (s .args .w) (s .args .h) (omega arith) (omega (arith, long-is (c .before .before)))), s .pre)
 
 returns-3 : tie.Need-returns-3
 returns-3 c =
     let s = c .before .before in
-    let p = s .pre in
-    (sym (resized-off (s .args .edge) (s .args .w) (s .args .h) (omega arith)), p .0, p .1, p .2, p .3)
+    (sym (resized-off (s .args .edge) (s .args .w) (s .args .h) (omega arith)), s .pre)
 
 pub resized-spec : {M : Type 1} → statement M
 resized-spec = tie.close (tie.spec side-requires side-requires-2 returns returns-2 returns-3)

@@ -4,7 +4,7 @@ use borrow.Author.Needs.{needs}
 use lib.Ieee.{Float}
 use Rattle.floats.specs.Bound.{UpTo}
 use Rattle.floats.specs.F32.{_⊗_, _⊘_}
-use Rattle.settings.specs.Sides.{scaledOf}
+use Rattle.settings.specs.Sides.{scaledSideOf}
 use Rattle.settings.proofs.Resizing.{scaled-upto}
 use Rattle.settings.proofs.scaled.Statement.{statement}
 use Rattle.settings.proofs.scaled.Tie as tie
@@ -19,7 +19,7 @@ to-f32-requires-3 : tie.Need-to-f32-requires-3
 to-f32-requires-3 c κs = search needs
 
 returns : tie.Need-returns
-unfolding scaledOf
+unfolding scaledSideOf
 returns c =
     let a = c .before .before .before .args in
     let p = c .before .before .before .pre in

@@ -6,7 +6,7 @@ use native.Mathlib.Omega.{arith}
 use borrow.Author.Needs.{needs}
 use lib.Ieee.{toUnsigned}
 use Rattle.numbers.specs.Numbers.{roundOf}
-use Rattle.settings.specs.Sides.{scaledOf, sideOf}
+use Rattle.settings.specs.Sides.{scaledSideOf, sideOf}
 use Rattle.settings.proofs.Resizing.{rounded-most}
 use Rattle.settings.proofs.side.Statement.{statement}
 use Rattle.settings.proofs.side.Tie as tie
@@ -21,7 +21,7 @@ as-usize-requires : tie.Need-as-usize-requires
 as-usize-requires c κs = search needs
 
 -- what `v` is, and that it is at most 4,096
-value-is : (c : tie.After-as-usize) → c .as-usize .result ≡ toUnsigned 64 (roundOf (scaledOf (c .before .before .before .args .edge) (c .before .before .before .args .long) (c .before .before .before .args .s)))
+value-is : (c : tie.After-as-usize) → c .as-usize .result ≡ toUnsigned 64 (roundOf (scaledSideOf (c .before .before .before .args .edge) (c .before .before .before .args .long) (c .before .before .before .args .s)))
 value-is c = c .as-usize .ensures ∙ ap (toUnsigned 64) (c .before .round .ensures ∙ ap roundOf (c .before .before .scaled .ensures .0))
 
 value-most : (c : tie.After-as-usize) → c .as-usize .result ≤ 4096

@@ -21,7 +21,7 @@ back : (z : tie.After-steep) →
 back z =
     let g = z .before .before .before .before in
     let a = g .args in
-    solve-back _ _ _ _ (a .w) (a .h) (a .at .theta) _ _ (a .part .now) (z .steep .last .0) (z .steep .ensures) (g .pre .4)
+    solve-back _ _ _ _ (a .w) (a .h) (a .at .theta) _ _ (a .part .now) (z .steep .last .0) (z .steep .ensures) (g .pre .1)
 
 mul-n : tie.Need-mul-n
 mul-n c = search needs

@@ -107,7 +107,7 @@ returns c =
     let l = c .before .before .before .loop in
     let d = c .before .before .before .before in
     let e : l .i ≡ d .before .before .before .before .args .n = omega arith in
-    centred-end _ _ _ _ (d .means-over-mask .ensures) (l .part) (rw e at (l .inv .2)) (l .s) (rw e at (l .inv .3)) _ _ (c .before .sqrt .ensures) (c .sqrt2 .ensures)
+    centred-end _ _ _ _ (d .means-over-mask .ensures) (l .part) (rw e at (l .inv .2)) (l .s) (rw e at (l .inv .3)) _ _ (c .before .sqrt .ensures .0) (c .sqrt2 .ensures .0)
 
 pub centered-stats-in-place-spec : {M : Type 1} → statement M
 centered-stats-in-place-spec =

@@ -7,7 +7,7 @@ use borrow.Author.Needs.{needs}
 use lib.ListN.{length}
 use mir.Syntax.{w16}
 use mir.ValLaws.{toZ-ofZ}
-use Rattle.text.specs.Text.{decimalOf, sizeOf, signedOf}
+use Rattle.text.specs.Text.{decimalOf, distanceOf, signedOf}
 use Rattle.text.proofs.Digits.{few, signed-below, signed-above}
 use Rattle.text.proofs.Pieces.{then-wrote, wrote-as, ended, length-ended}
 use Rattle.text.proofs.put_signed.Statement.{statement}
@@ -31,7 +31,7 @@ returns c =
     let n = a .args .n in
     let s = c .before .before .before .before .before .before .before .before .before .size in
     let k = s .result in
-    let z : k ≡ sizeOf n = rw (toZ-ofZ w16 n (a .fits .n)) at (s .ensures .0) in
+    let z : k ≡ distanceOf n = rw (toZ-ofZ w16 n (a .fits .n)) at (s .ensures .0) in
     let e : signedOf n ≡ 45 ∷ decimalOf k = signed-below n (rw (toZ-ofZ w16 n (a .fits .n)) at (c .before .before .before .before .before .before .before .before .if1 .taken)) ∙ ap (λ (m : ℕ). 45 ∷ decimalOf m) (sym z) in
     let short : length (ended (decimalOf k) (a .args .end)) ≤ 6 = omega (arith, few 4 k (omega (arith, s .ensures .1)), length-ended (decimalOf k) (a .args .end)) in
     let w = then-wrote (c .before .before .before .before .before .before .put-byte .ensures) (wrote-as (c .before .before .put-decimal .ensures) refl short) (omega (arith, a .pre)) in
@@ -49,7 +49,7 @@ returns-2 c =
     let n = a .args .n in
     let s = c .before .before .before .before .before .size in
     let k = s .result in
-    let z : k ≡ sizeOf n = rw (toZ-ofZ w16 n (a .fits .n)) at (s .ensures .0) in
+    let z : k ≡ distanceOf n = rw (toZ-ofZ w16 n (a .fits .n)) at (s .ensures .0) in
     let e : signedOf n ≡ decimalOf k = signed-above n (rw (toZ-ofZ w16 n (a .fits .n)) at (c .before .before .before .before .if1 .left)) ∙ ap decimalOf (sym z) in
     let short : length (ended (decimalOf k) (a .args .end)) ≤ 7 = omega (arith, few 4 k (omega (arith, s .ensures .1)), length-ended (decimalOf k) (a .args .end)) in
     wrote-as (c .before .before .put-decimal2 .ensures) (sym (ap (λ (l : List ℕ). ended l (a .args .end)) e)) short

@@ -11,7 +11,7 @@ use mir.Val.{SFits, Fits, toZ, ofZ, bits}
 use mir.ValLaws.{toZ-ofZ}
 use mir.Facts.{sfits-widen}
 use borrow.Author.Tests.{ltb-true}
-use Rattle.text.specs.Text.{sizeOf}
+use Rattle.text.specs.Text.{distanceOf}
 use Rattle.text.proofs.size.Statement.{statement}
 use Rattle.text.proofs.size.Tie as tie
 
@@ -22,7 +22,7 @@ back n f = rw (toZ-ofZ w16 n f) (toZ-ofZ w64 n (sfits-widen tt f))
 record Turned (n : ℤ) : Type 0 where
   fits : SFits w64 (pos 0 -ℤ n)
   above : T (nonNeg (pos 0 -ℤ n))
-  size : natAbs (pos 0 -ℤ n) ≡ sizeOf n
+  size : natAbs (pos 0 -ℤ n) ≡ distanceOf n
 
 turned : (n : ℤ) → SFits w16 n → ltZ n (pos 0) ≡ true → Turned n
 turned (pos n) f e = absurd (omega (arith, ltb-true n 0 e))
@@ -32,16 +32,16 @@ turned (negsuc n) f e = record { fits = record { sfits = omega (arith, f .sfits)
 there : (n : ℤ) → SFits w16 n → Turned n → toZ w64 (ofZ w64 (pos 0 -ℤ toZ w64 (ofZ w64 (toZ w16 (ofZ w16 n))))) ≡ pos 0 -ℤ n
 there n f t = rw (back n f) (toZ-ofZ w64 (pos 0 -ℤ n) (t .fits))
 
-small : (n : ℤ) → SFits w16 n → sizeOf n ≤ 32768
+small : (n : ℤ) → SFits w16 n → distanceOf n ≤ 32768
 small (pos n) f = omega (arith, f .sfits)
 small (negsuc n) f = omega (arith, f .sfits)
 
-size-fits : (n : ℤ) → SFits w16 n → Fits w64 (sizeOf n)
+size-fits : (n : ℤ) → SFits w16 n → Fits w64 (distanceOf n)
 size-fits n f = record { fits = omega (arith, small n f) }
 
 record Above (n : ℤ) : Type 0 where
   above : T (nonNeg n)
-  size : natAbs n ≡ sizeOf n
+  size : natAbs n ≡ distanceOf n
 
 above : (n : ℤ) → ltZ n (pos 0) ≡ false → Above n
 above (pos n) e = record { above = tt; size = refl }

@@ -1,7 +1,8 @@
 -- `warp::blend` meets its contract. Assumes nothing.
 use borrow.Author.Needs.{needs}
 use mathlib.Core.Path.{refl}
-use Rattle.warp.specs.Rows.{blendOf}
+use Rattle.warp.specs.Warp.{fourOf}
+use Rattle.warp.specs.Rows.{fourAt}
 use Rattle.warp.proofs.blend.Statement.{statement}
 use Rattle.warp.proofs.blend.Tie as tie
 
@@ -39,7 +40,7 @@ shared-slice-read-result-4 : tie.Need-shared-slice-read-result-4
 shared-slice-read-result-4 c = search needs
 
 returns : tie.Need-returns
-unfolding blendOf
+unfolding fourAt fourOf
 returns c = refl
 
 pub blend-spec : {M : Type 1} → statement M

@@ -68,7 +68,7 @@ mix-requires : tie.Need-mix-requires Inv-loop μ-loop
 mix-requires c κs =
     let l = c .before .before .before .before .before .before .before in
     let s = l .before .before .before .before .before .before in
-    (omega (arith, l .loop .inv .part-length), λ e. omega (arith, c .before .before .wide .ensures, s .pre .6 .reach (l .loop .x) (omega arith) e))
+    (omega (arith, l .loop .inv .part-length), λ e. omega (arith, c .before .before .wide .ensures, s .pre .4 .reach (l .loop .x) (omega arith) e))
 
 add-part : tie.Need-add-part Inv-loop μ-loop
 add-part c = search needs

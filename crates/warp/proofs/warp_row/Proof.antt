@@ -39,7 +39,7 @@ reads-row-requires c κs =
     let d = c .before .before .before .before .before .before .before .before .before .before .before .before .before in
     let s = entry d in
     let k = d .places-row .kept in
-    (s .pre .3, s .pre .5, omega (arith, s .pre .6, k .1 .1 .1 .0), omega (arith, s .pre .7, k .0), omega (arith, s .pre .8, k .1 .0), omega (arith, s .pre .9, k .1 .1 .0), reach d)
+    (s .pre .3, s .pre .5, omega (arith, s .pre .6, k .1 .1 .1 .0), record { spots-fit = omega (arith, s .pre .7 .spots-fit, k .0); across-fit = omega (arith, s .pre .7 .across-fit, k .1 .0); down-fit = omega (arith, s .pre .7 .down-fit, k .1 .1 .0) }, reach d)
 
 same-length : tie.Need-same-length
 same-length c = search needs

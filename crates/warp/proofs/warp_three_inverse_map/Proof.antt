@@ -30,8 +30,8 @@ warp-row-requires c κs =
     let s = l .before .before .before .before .before .before in
     let a = s .args in
     let room : i .y * a .w + a .w ≤ a .w * a .h = row-in (a .w) (i .y) (a .h) (c .before .before .before .before .before .loop-test .taken) in
-    let few : a .w * a .h ≤ 16777216 = mul-le-mul (s .pre .1) (s .pre .3) in
-    (s .pre .1, search needs, s .pre .3, room, few, omega (arith, i .inv .0 .part-length), omega (arith, i .inv .0 .marks-length), omega (arith, i .inv .1), omega (arith, i .inv .2), omega (arith, i .inv .3), i .inv .0 .counted)
+    let few : a .w * a .h ≤ 16777216 = mul-le-mul (s .pre .0 .w-most) (s .pre .0 .h-most) in
+    (s .pre .0 .w-most, search needs, s .pre .0 .h-most, room, few, omega (arith, i .inv .0 .part-length), omega (arith, i .inv .0 .marks-length), record { spots-fit = omega (arith, i .inv .1); across-fit = omega (arith, i .inv .2); down-fit = omega (arith, i .inv .3) }, i .inv .0 .counted)
 
 add-y : tie.Need-add-y Inv-loop μ-loop
 add-y c = search needs

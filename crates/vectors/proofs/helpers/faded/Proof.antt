@@ -1,11 +1,13 @@
 -- `vectors::helpers::faded` meets its contract. Assumes nothing.
-use mathlib.Core.Path.{_≡_, refl, sym, subst}
+use mathlib.Core.Path.{_≡_, refl, sym, ap, subst, _∙_}
 use mathlib.Core.Bool.{true, false}
 use lib.Dec.{T, lit<}
 use lib.Ieee.{Float, binary32, ofBits, le}
 use lib.Ieee.Exact.{HasValue}
 use Rattle.floats.specs.Bound.{UpTo}
 use Rattle.floats.proofs.Signs.{up-to-of-le}
+use Rattle.words.specs.Words.{hasBits}
+use Rattle.vectors.proofs.Tests.{and-passed, both, first-failed}
 use borrow.Author.Needs.{needs}
 use Rattle.vectors.proofs.helpers.faded.Statement.{statement}
 use Rattle.vectors.proofs.helpers.faded.Tie as tie
@@ -25,13 +27,13 @@ same-requires : tie.Need-same-requires
 same-requires c κs = search needs
 
 returns : tie.Need-returns
-returns c = search needs
+returns c = and-passed (both (c .before .before .before .if1 .taken) (c .before .before .if2 .taken)) (c .same .ensures ∙ ap (λ (y : Float). hasBits y (c .before .before .before .before .args .w)) (c .before .exp-neg .ensures))
 
 returns-2 : tie.Need-returns-2
-returns-2 c = search needs
+returns-2 c = rw (c .before .if1 .taken, c .if2 .left)
 
 returns-3 : tie.Need-returns-3
-returns-3 c = search needs
+returns-3 c = sym (first-failed _ (first-failed _ (c .if1 .left)))
 
 pub faded-spec : {M : Type 1} → statement M
 faded-spec = tie.close (tie.spec exp-neg-requires same-requires returns returns-2 returns-3)

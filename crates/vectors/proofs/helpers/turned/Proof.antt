@@ -1,11 +1,14 @@
 -- `vectors::helpers::turned` meets its contract. Assumes nothing.
-use mathlib.Core.Path.{_≡_, refl, sym, subst}
+use mathlib.Core.Path.{_≡_, refl, sym, ap, subst, _∙_}
 use mathlib.Core.Bool.{true, false}
 use lib.Dec.{T, lit<}
 use lib.Ieee.{Float, binary32, ofBits, neg, le}
 use lib.Ieee.Exact.{HasValue}
+use Rattle.lists.proofs.Cases.{pick-true, pick-false}
 use Rattle.floats.specs.Bound.{Within}
 use Rattle.floats.proofs.Signs.{within-of-le}
+use Rattle.words.specs.Words.{hasBits}
+use Rattle.vectors.proofs.Tests.{and-passed, both, first-failed}
 use borrow.Author.Needs.{needs}
 use Rattle.vectors.proofs.helpers.turned.Statement.{statement}
 use Rattle.vectors.proofs.helpers.turned.Tie as tie
@@ -24,7 +27,7 @@ same-requires : tie.Need-same-requires
 same-requires c κs = search needs
 
 returns : tie.Need-returns
-returns c = search needs
+returns c = and-passed (both (c .before .before .before .before .if1 .taken) (c .before .before .before .if2 .taken)) (c .same .ensures ∙ ap (λ (y : Float). hasBits y (c .before .before .before .before .before .args .w)) (c .before .cos .ensures ∙ sym (pick-true _ _ _ (c .before .before .if3 .taken))))
 
 sin-requires : tie.Need-sin-requires
 sin-requires c κs = to-two (c .before .before .before .args .x) (c .before .before .if1 .taken) (c .before .if2 .taken)
@@ -33,13 +36,13 @@ same-requires-2 : tie.Need-same-requires-2
 same-requires-2 c κs = search needs
 
 returns-2 : tie.Need-returns-2
-returns-2 c = search needs
+returns-2 c = and-passed (both (c .before .before .before .before .if1 .taken) (c .before .before .before .if2 .taken)) (c .same2 .ensures ∙ ap (λ (y : Float). hasBits y (c .before .before .before .before .before .args .w)) (c .before .sin .ensures ∙ sym (pick-false _ _ _ (c .before .before .if3 .left))))
 
 returns-3 : tie.Need-returns-3
-returns-3 c = search needs
+returns-3 c = rw (c .before .if1 .taken, c .if2 .left)
 
 returns-4 : tie.Need-returns-4
-returns-4 c = search needs
+returns-4 c = sym (first-failed _ (first-failed _ (c .if1 .left)))
 
 pub turned-spec : {M : Type 1} → statement M
 turned-spec =

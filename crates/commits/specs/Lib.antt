@@ -1,0 +1,3 @@
+pub mod Commits
+pub mod Library
+pub mod Program

@@ -1,0 +1,5 @@
+pub mod Tests
+pub mod Runs
+pub mod Sides
+pub mod Stages
+pub mod Parts
