@@ -1,6 +1,5 @@
 //! Two frames of a pattern, the second shifted: their alignment, its matrix and its pins; then the aligner over four frames.
 #[path = "../rust/quayhollow.rs"]
-#[allow(dead_code)]
 mod quayhollow;
 use quayhollow::{Aligner, Answer, Outcome, Pose, Room, Settings};
 
@@ -14,11 +13,12 @@ fn drawn(right: usize, down: usize) -> Vec<u8> {
 }
 
 fn tell(what: &str, o: Outcome) {
-    let p = match o.answer {
-        Answer::Posed(pose) => pose,
-        Answer::Refused(_) => Pose { theta: 0.0, tx: 0.0, ty: 0.0, rho: 0.0 },
+    let (p, words) = match o.answer {
+        Answer::Posed(pose) => (pose, "a pose"),
+        Answer::Refused(refusal) => (Pose { theta: 0.0, tx: 0.0, ty: 0.0, rho: 0.0 }, refusal.words()),
     };
-    println!("{what}: number {}, passes {}, theta {:.6}, tx {:.6}, ty {:.6}, rho {:.6}", o.answer.number(), o.passes, p.theta, p.tx, p.ty, p.rho);
+    let number = o.answer.number();
+    println!("{what}: number {number}, passes {}, theta {:.6}, tx {:.6}, ty {:.6}, rho {:.6}: {words}", o.passes, p.theta, p.tx, p.ty, p.rho);
 }
 
 fn main() {

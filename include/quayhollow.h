@@ -6,12 +6,24 @@
  *
  * Nothing is allocated and nothing is kept between calls: what is lent stays the caller's. What the caller sees to:
  *   - a pointer leads to as many elements as its count says, and is aligned for them; it may be null where the count is 0;
- *   - memory that a call may write overlaps no other memory lent to the same call.
- * Calls may run at the same time on different memory. quayhollow_align and quayhollow_estimate take some 100 KiB of stack.
+ *   - memory that a call may write overlaps no other memory lent to the same call, and no other call uses it meanwhile;
+ *   - floats are rounded to nearest, ties to even, as when a program starts: under another rounding mode other answers come.
+ * Calls may run at the same time. Frames that are only read may be shared between them. quayhollow_align and quayhollow_estimate take less
+ * than 100 KiB of stack (measured on x86-64). The archive needs memset from outside, and nothing else.
+ *
+ * At start compare quayhollow_version() with QUAYHOLLOW_VERSION: they differ where archive and header do not belong together.
  *
  * A frame is w * h bytes, row after row, 0 for black. A pose says which point of the input agrees with the point x, y of the template:
  *   cos(theta) * x - sin(theta) * y + tx, sin(theta) * x + cos(theta) * y + ty
- * theta is in radians, tx and ty in pixels of the frames handed in; rho is the correlation reached.
+ * theta is in radians, tx and ty in pixels of the frames handed in.
+ *
+ * rho is the correlation of the last warp, up to rounding in -1..1: 1 where the frames agree up to brightness and contrast. After max_iter
+ * passes it belongs to the pose before the last update. With max_iter 0 nothing is warped, and it is -1.
+ *
+ * A pose is the rules' answer, not proof that the frames match: on flat ground it may come of noise or of rounding. Who wants silence there
+ * takes a pose only where rho is at least a floor. None is certain: with filter 1 or 3, an edge of at most 256 and sides of 32 or more after
+ * resizing, 0.8 let 1 of 256,400 pairs of made noise through; with wider filters, smaller frames or more pixels noise and rounding come close
+ * to 1 (docs/NUMBERS.md).
  *
  * quayhollow_align and quayhollow_estimate answer with a code: number + 256 * passes. The numbers:
  *
@@ -22,7 +34,8 @@
  *    3   filter above 31 or max_iter above 1,000                                  0
  *    4   work or marks too short                                                  0
  *    5   under 16 pixels of the warped input lie inside it                        warps done, as for 6 to 10
- *    6   a frame is flat: its norm is at most 1e-6
+ *    6   a frame is flat: its norm is at most 1e-6. Not every flat frame ends so: where its mean is rounded the norm is larger, and then a
+ *        flat input ends with 8, a flat template with 5, 9, 10 or a pose
  *    7   rho is not finite
  *    8   the 3x3 system has no inverse
  *    9   no step: lambda or its divisor is not finite, or the divisor is not above 0
@@ -44,6 +57,36 @@
 extern "C" {
 #endif
 
+/* What quayhollow_version() answers where the archive belongs to this header. It goes up with every change of a function's parameters. */
+#define QUAYHOLLOW_VERSION 1
+
+/* The numbers. */
+#define QUAYHOLLOW_POSE 0
+#define QUAYHOLLOW_INVALID_INPUT 1
+#define QUAYHOLLOW_SIDE_TOO_LARGE 2
+#define QUAYHOLLOW_SETTING_TOO_LARGE 3
+#define QUAYHOLLOW_ROOM_TOO_SHORT 4
+#define QUAYHOLLOW_FEW_PIXELS 5
+#define QUAYHOLLOW_FLAT 6
+#define QUAYHOLLOW_RHO_NOT_FINITE 7
+#define QUAYHOLLOW_NO_INVERSE 8
+#define QUAYHOLLOW_NO_STEP 9
+#define QUAYHOLLOW_POSE_LOST 10
+#define QUAYHOLLOW_NO_PREVIOUS 11
+#define QUAYHOLLOW_OTHER_SIDES 12
+#define QUAYHOLLOW_STORE_TOO_SHORT 13
+
+/* The limits. */
+#define QUAYHOLLOW_MOST_SIDE 4096
+#define QUAYHOLLOW_MOST_FILTER 31
+#define QUAYHOLLOW_MOST_PASSES 1000
+
+/* How many elements a pose, a matrix, pins and a state have. */
+#define QUAYHOLLOW_POSE_LEN 4
+#define QUAYHOLLOW_MATRIX_LEN 9
+#define QUAYHOLLOW_PINS_LEN 3
+#define QUAYHOLLOW_STATE_LEN 3
+
 /* The settings' defaults. */
 #define QUAYHOLLOW_EPS 0.0001f
 #define QUAYHOLLOW_MAX_ITER 100
@@ -54,7 +97,44 @@ extern "C" {
 #define QUAYHOLLOW_NUMBER(code) ((uint8_t)((code) % 256u))
 #define QUAYHOLLOW_PASSES(code) ((uint32_t)(code) / 256u)
 
-/* 1: the version that this header describes. */
+/* A number in words. */
+static inline const char *quayhollow_words(uint8_t number)
+{
+    switch (number) {
+    case QUAYHOLLOW_POSE:
+        return "a pose";
+    case QUAYHOLLOW_INVALID_INPUT:
+        return "a side is 0, a frame has not w * h bytes, or the filter is 0 or even";
+    case QUAYHOLLOW_SIDE_TOO_LARGE:
+        return "a side is above 4096";
+    case QUAYHOLLOW_SETTING_TOO_LARGE:
+        return "the filter is above 31 or max_iter above 1000";
+    case QUAYHOLLOW_ROOM_TOO_SHORT:
+        return "work or marks are too short";
+    case QUAYHOLLOW_FEW_PIXELS:
+        return "fewer than 16 pixels are left where the frames overlap";
+    case QUAYHOLLOW_FLAT:
+        return "a frame is flat";
+    case QUAYHOLLOW_RHO_NOT_FINITE:
+        return "the correlation is not finite";
+    case QUAYHOLLOW_NO_INVERSE:
+        return "the input has too little on it to tell its motion";
+    case QUAYHOLLOW_NO_STEP:
+        return "the frames do not agree, and no step is found";
+    case QUAYHOLLOW_POSE_LOST:
+        return "the pose went out of range";
+    case QUAYHOLLOW_NO_PREVIOUS:
+        return "no previous frame";
+    case QUAYHOLLOW_OTHER_SIDES:
+        return "the previous frame has other sides";
+    case QUAYHOLLOW_STORE_TOO_SHORT:
+        return "the store is shorter than the frame";
+    default:
+        return "no such number";
+    }
+}
+
+/* QUAYHOLLOW_VERSION, of the header that the archive was made with. */
 uint32_t quayhollow_version(void);
 
 /*

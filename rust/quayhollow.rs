@@ -1,11 +1,35 @@
 //! quayhollow: the turn and shift under which two frames agree best. Safe Rust over the library libquayhollow.a, in one file:
 //!
-//!     #[path = "rust/quayhollow.rs"]
-//!     mod quayhollow;
+//! ```text
+//! #[path = "rust/quayhollow.rs"]
+//! mod quayhollow;
+//! ```
 //!
-//! and `-L DIR -l static=quayhollow` for the compiler. include/quayhollow.h says what every number means; the names are the same here.
+//! It compiles in every edition, without a warning, and was tried with Rust 1.85 and 1.95; `unsafe extern` asks for 1.82. The compiler is told
+//! where the archive is by `-L DIR -l static=quayhollow`, or in build.rs:
 //!
-//! `align` and `estimate` work in memory that the caller lends and allocate nothing. `Room` and `Aligner` hold that memory.
+//! ```text
+//! fn main() {
+//!     println!("cargo:rustc-link-search=native=target/staticlib");
+//!     println!("cargo:rustc-link-lib=static=quayhollow");
+//! }
+//! ```
+//!
+//! include/quayhollow.h says what every number means and what a caller sees to; the names are the same here. `align` and `estimate` work in memory
+//! that the caller lends and allocate nothing. `Room` and `Aligner` hold that memory, and their `new` panics where the archive has another version
+//! than this file. A call takes less than 100 KiB of stack (measured on x86-64).
+#![allow(dead_code)]
+
+use std::fmt;
+use std::num::NonZeroU8;
+
+/// What `version()` answers where the archive belongs to this file.
+pub const VERSION: u32 = 1;
+
+/// The largest side, filter and max_iter.
+pub const MOST_SIDE: usize = 4096;
+pub const MOST_FILTER: usize = 31;
+pub const MOST_PASSES: usize = 1000;
 
 /// How the passes are run.
 #[derive(Clone, Copy, Debug, PartialEq)]
@@ -26,7 +50,8 @@ impl Default for Settings {
     }
 }
 
-/// theta in radians, tx and ty in pixels, the correlation rho.
+/// theta in radians, tx and ty in pixels, and rho, the correlation of the last warp: after max_iter passes it belongs to the pose before the
+/// last update, and with max_iter 0 it is -1. A pose is no proof that the frames match: the header says how far a floor of rho helps on flat ground.
 #[derive(Clone, Copy, Debug, PartialEq)]
 pub struct Pose {
     pub theta: f32,
@@ -35,11 +60,81 @@ pub struct Pose {
     pub rho: f32,
 }
 
-/// How a call ends: a pose, or a refusal by its number in the header's table.
+/// Why there is no pose: a number of the header's table, never 0.
+#[derive(Clone, Copy, Debug, Eq, Hash, PartialEq)]
+pub struct Refusal(NonZeroU8);
+
+impl Refusal {
+    pub const INVALID_INPUT: Refusal = Refusal::numbered(1);
+    pub const SIDE_TOO_LARGE: Refusal = Refusal::numbered(2);
+    pub const SETTING_TOO_LARGE: Refusal = Refusal::numbered(3);
+    pub const ROOM_TOO_SHORT: Refusal = Refusal::numbered(4);
+    pub const FEW_PIXELS: Refusal = Refusal::numbered(5);
+    pub const FLAT: Refusal = Refusal::numbered(6);
+    pub const RHO_NOT_FINITE: Refusal = Refusal::numbered(7);
+    pub const NO_INVERSE: Refusal = Refusal::numbered(8);
+    pub const NO_STEP: Refusal = Refusal::numbered(9);
+    pub const POSE_LOST: Refusal = Refusal::numbered(10);
+    pub const NO_PREVIOUS: Refusal = Refusal::numbered(11);
+    pub const OTHER_SIDES: Refusal = Refusal::numbered(12);
+    pub const STORE_TOO_SHORT: Refusal = Refusal::numbered(13);
+
+    const fn numbered(number: u8) -> Refusal {
+        match NonZeroU8::new(number) {
+            Some(number) => Refusal(number),
+            None => panic!("0 is a pose"),
+        }
+    }
+
+    /// None for 0, which is a pose.
+    pub fn new(number: u8) -> Option<Refusal> {
+        NonZeroU8::new(number).map(Refusal)
+    }
+
+    pub fn number(self) -> u8 {
+        self.0.get()
+    }
+
+    pub fn words(self) -> &'static str {
+        match self {
+            Refusal::INVALID_INPUT => "a side is 0, a frame has not w * h bytes, or the filter is 0 or even",
+            Refusal::SIDE_TOO_LARGE => "a side is above 4096",
+            Refusal::SETTING_TOO_LARGE => "the filter is above 31 or max_iter above 1000",
+            Refusal::ROOM_TOO_SHORT => "work or marks are too short",
+            Refusal::FEW_PIXELS => "fewer than 16 pixels are left where the frames overlap",
+            Refusal::FLAT => "a frame is flat",
+            Refusal::RHO_NOT_FINITE => "the correlation is not finite",
+            Refusal::NO_INVERSE => "the input has too little on it to tell its motion",
+            Refusal::NO_STEP => "the frames do not agree, and no step is found",
+            Refusal::POSE_LOST => "the pose went out of range",
+            Refusal::NO_PREVIOUS => "no previous frame",
+            Refusal::OTHER_SIDES => "the previous frame has other sides",
+            Refusal::STORE_TOO_SHORT => "the store is shorter than the frame",
+            _ => "no such number",
+        }
+    }
+}
+
+impl fmt::Display for Refusal {
+    fn fmt(&self, f: &mut fmt::Formatter<'_>) -> fmt::Result {
+        write!(f, "{}: {}", self.number(), self.words())
+    }
+}
+
+/// How a call ends.
 #[derive(Clone, Copy, Debug, PartialEq)]
 pub enum Answer {
     Posed(Pose),
-    Refused(u8),
+    Refused(Refusal),
+}
+
+impl fmt::Display for Answer {
+    fn fmt(&self, f: &mut fmt::Formatter<'_>) -> fmt::Result {
+        match self {
+            Answer::Posed(p) => write!(f, "theta {}, tx {}, ty {}, rho {}", p.theta, p.tx, p.ty, p.rho),
+            Answer::Refused(refusal) => write!(f, "refused, {}", refusal),
+        }
+    }
 }
 
 /// An answer with the number of warps done.
@@ -62,7 +157,7 @@ impl Answer {
     pub fn number(self) -> u8 {
         match self {
             Answer::Posed(_) => 0,
-            Answer::Refused(number) => number,
+            Answer::Refused(refusal) => refusal.number(),
         }
     }
 
@@ -97,13 +192,14 @@ impl Answer {
 /// What a code and a pose say.
 fn outcome(code: u32, pose: [f32; 4]) -> Outcome {
     let [theta, tx, ty, rho] = pose;
-    let answer = match (code % 256) as u8 {
-        0 => Answer::Posed(Pose { theta, tx, ty, rho }),
-        number => Answer::Refused(number),
+    let answer = match Refusal::new((code % 256) as u8) {
+        None => Answer::Posed(Pose { theta, tx, ty, rho }),
+        Some(refusal) => Answer::Refused(refusal),
     };
     Outcome { answer, passes: code / 256 }
 }
 
+/// `VERSION`, of the file that the archive was made with.
 pub fn version() -> u32 {
     // SAFETY: it takes nothing
     unsafe { raw::quayhollow_version() }
@@ -205,7 +301,9 @@ pub struct Room {
 }
 
 impl Room {
+    /// Panics where the archive has another version than this file.
     pub fn new(w: usize, h: usize, edge: usize) -> Room {
+        assert_eq!(version(), VERSION, "libquayhollow.a and quayhollow.rs do not belong together");
         Room { work: vec![0.0; work_len(w, h, edge)], marks: vec![0; marks_len(w, h, edge)] }
     }
 
@@ -215,7 +313,7 @@ impl Room {
 }
 
 /// An aligner with its own memory, for frames of some sides. A frame of other sides is answered too; one that needs more room is refused
-/// by 4 or 13.
+/// with 4 or 13.
 #[derive(Clone, Debug)]
 pub struct Aligner {
     settings: Settings,
@@ -229,6 +327,11 @@ impl Aligner {
         Aligner { settings, state: State::default(), store: vec![0; store_len(w, h)], room: Room::new(w, h, settings.edge) }
     }
 
+    /// Forgets the previous frame: the next one is refused with 11.
+    pub fn reset(&mut self) {
+        self.state = State::default();
+    }
+
     pub fn estimate(&mut self, frame: &[u8], w: usize, h: usize) -> Outcome {
         estimate(frame, w, h, self.settings, &mut self.state, &mut self.store, &mut self.room.work, &mut self.room.marks)
     }
@@ -236,7 +339,7 @@ impl Aligner {
 
 /// The library's functions, as include/quayhollow.h has them.
 mod raw {
-    extern "C" {
+    unsafe extern "C" {
         pub fn quayhollow_version() -> u32;
 
         pub fn quayhollow_work_len(w: usize, h: usize, edge: usize) -> usize;

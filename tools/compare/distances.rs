@@ -3,9 +3,7 @@
 //!
 //!   distances [SEED]
 //!
-//! The oracle (tools/oracle/ecc.rs) is compiled twice: with document 01's mathematics and tests, which the library equals bit for bit, and with
-//! the machine's sine, cosine and exponential and without the added tests. The second tells numbers and pass counts. It is held to document 000
-//! itself, docs/source/ecc.rs as it stands, on every pair: the matrix bit for bit, or the error. Only nalgebra is a stand-in (nalgebra.rs).
+//! How both are run is in ends.rs.
 
 #[allow(dead_code)]
 #[path = "../oracle"]
@@ -23,6 +21,7 @@ mod by_rules {
 #[allow(dead_code)]
 #[path = "../../docs/source/ecc.rs"]
 mod document_000;
+mod ends;
 #[allow(dead_code)]
 #[path = "../vectors/frames.rs"]
 mod frames;
@@ -40,51 +39,13 @@ mod error {
 }
 
 use by_rules::ecc;
+use ends::{Ends, Pair};
 use ecc::EccConfig;
-use error::BoostTrackErr;
 use frames::{board, faint_frame, pair, seen};
 use lines::{about, below, pick, Stream};
 use std::collections::BTreeMap;
 
 const SEED: u64 = 20260120;
-
-/// two frames and settings
-struct Pair {
-    w: usize,
-    h: usize,
-    frames: (Vec<u8>, Vec<u8>),
-    cfg: EccConfig,
-}
-
-/// how the rules and document 000 end
-struct Ends {
-    rules: ecc::Outcome,
-    rust: by_machine::ecc::Outcome,
-    /// the second is document 000's own answer
-    held: bool,
-}
-
-impl Pair {
-    fn ends(&self) -> Ends {
-        let (a, b, w, h, c) = (&self.frames.0, &self.frames.1, self.w, self.h, self.cfg);
-        let rules = ecc::find_transform_ecc_euclidean(a, b, w, h, c, usize::MAX, usize::MAX);
-        let EccConfig { eps, max_iter, gauss_filt_size, resize_long_edge } = c;
-        let cfg = by_machine::ecc::EccConfig { eps, max_iter, gauss_filt_size, resize_long_edge };
-        let rust = by_machine::ecc::find_transform_ecc_euclidean(a, b, w, h, cfg, 0, 0);
-        let cfg = document_000::EccConfig { eps, max_iter, gauss_filt_size, resize_long_edge };
-        let held = match document_000::find_transform_ecc_euclidean(a, b, w, h, cfg) {
-            Ok(m) => rust.number == 0 && same(&m, &by_machine::ecc::affine_from_theta_tx_ty(rust.theta, rust.tx, rust.ty)),
-            Err(BoostTrackErr::InvalidInput) => rust.number == 1,
-            Err(BoostTrackErr::NotConverged) => (5..10).contains(&rust.number),
-        };
-        Ends { rules, rust, held }
-    }
-}
-
-/// the same bits; two NaNs are the same
-fn same(a: &[[f32; 3]; 3], b: &[[f32; 3]; 3]) -> bool {
-    a.iter().flatten().zip(b.iter().flatten()).all(|(x, y)| x.to_bits() == y.to_bits() || (x.is_nan() && y.is_nan()))
-}
 
 struct Group {
     name: &'static str,
@@ -269,8 +230,7 @@ fn still(o: &ecc::Outcome) -> bool {
 /// the smallest side, in steps of 16 up to 4,096, whose first pass ends so; found by halves, as if all larger sides ended so too
 fn first_side(kind: (&str, usize), so: fn(&ecc::Outcome) -> bool) -> Option<usize> {
     let ends_so = |steps: usize| {
-        let p = one_further(kind, 16 * steps, 1);
-        so(&ecc::find_transform_ecc_euclidean(&p.frames.0, &p.frames.1, p.w, p.h, p.cfg, usize::MAX, usize::MAX))
+        so(&one_further(kind, 16 * steps, 1).by_the_rules())
     };
     let (mut low, mut high) = (16, 256);
     if !ends_so(high) {

@@ -1,7 +1,9 @@
 //! The library against the oracle (tools/oracle), by way of the header (library.c) and of the Rust wrapper: every parameter of each call differs
 //! from those that it could be taken for, and what is handed back and what the lent memory holds afterwards is compared bit for bit.
 //!
-//!   library [CALLS]
+//!   library [CALLS]            prints how many comparisons were made, and how many failed
+//!   library --write [CALLS]    prints neither: it writes each call by the header to standard output, with what the oracle expects of it, for the
+//!                              library of another machine. archive.c reads that, and says how a record is made up
 //!
 //! The aligner, the lengths and the pins are held to document 01's rules as tools/oracle/aligner.rs has them.
 
@@ -23,6 +25,7 @@ use aligner::{pins, pixels, Memory};
 use ecc::EccConfig;
 use lines::{pick, Stream};
 use quayhollow::{Answer, Outcome, Pose, Settings, State};
+use std::io::{stdout, BufWriter, Stdout, Write};
 use std::ptr::{null, null_mut};
 
 #[repr(C)]
@@ -71,6 +74,52 @@ extern "C" {
     fn c_defaults(c: *mut Call);
 }
 
+/// what a record is of
+#[derive(Clone, Copy)]
+enum Kind {
+    Align,
+    Estimate,
+    Answer,
+    Lengths,
+}
+
+/// a call by the header as bytes: its kind and numbers, then parts
+struct Record(Vec<u8>);
+
+impl Record {
+    fn new(kind: Kind, numbers: &[u64]) -> Record {
+        Record([&[kind as u64], numbers].concat().iter().flat_map(|n| n.to_le_bytes()).collect())
+    }
+
+    /// memory: how many bytes, what they are before the call, and what they must be afterwards
+    fn part<T: Copy, const N: usize>(mut self, before: &[T], after: &[T], bytes: fn(T) -> [u8; N]) -> Record {
+        assert_eq!(before.len(), after.len());
+        self.0.extend(((N * before.len()) as u64).to_le_bytes());
+        self.0.extend(before.iter().chain(after).flat_map(|&x| bytes(x)));
+        self
+    }
+}
+
+/// memory of no length is at null
+fn shown<T>(of: &[T]) -> *const T {
+    match of {
+        [] => null(),
+        _ => of.as_ptr(),
+    }
+}
+
+/// the same, for memory that a call may write
+fn lent<T>(of: &mut [T]) -> *mut T {
+    match of {
+        [] => null_mut(),
+        _ => of.as_mut_ptr(),
+    }
+}
+
+fn bits(of: &[f32]) -> Vec<u32> {
+    of.iter().map(|x| x.to_bits()).collect()
+}
+
 /// what a call is handed beside the memory
 struct Given {
     template: Vec<u8>,
@@ -84,9 +133,9 @@ impl Given {
     fn record(&self, m: &mut Memory) -> Call {
         let s = self.settings;
         Call {
-            template: self.template.as_ptr(),
+            template: shown(&self.template),
             template_len: self.template.len(),
-            input: self.input.as_ptr(),
+            input: shown(&self.input),
             input_len: self.input.len(),
             w: self.w,
             h: self.h,
@@ -94,15 +143,15 @@ impl Given {
             max_iter: s.max_iter,
             filter: s.filter,
             edge: s.edge,
-            state: m.state.as_mut_ptr(),
+            state: lent(&mut m.state),
             state_len: m.state.len(),
-            store: m.store.as_mut_ptr(),
+            store: lent(&mut m.store),
             store_len: m.store.len(),
-            work: m.work.as_mut_ptr(),
+            work: lent(&mut m.work),
             work_len: m.work.len(),
-            marks: m.marks.as_mut_ptr(),
+            marks: lent(&mut m.marks),
             marks_len: m.marks.len(),
-            pose: m.pose.as_mut_ptr(),
+            pose: lent(&mut m.pose),
             pose_len: m.pose.len(),
         }
     }
@@ -113,10 +162,11 @@ impl Given {
     }
 }
 
-/// how many comparisons were made, and how many failed
+/// how many comparisons were made, and how many failed; where records go, if they are asked for
 struct Tally {
     tried: usize,
     wrong: usize,
+    out: Option<BufWriter<Stdout>>,
 }
 
 impl Tally {
@@ -130,15 +180,49 @@ impl Tally {
         }
     }
 
-    /// a call by the header: code, and all memory
-    fn by_c(&mut self, what: &str, code: u32, o: &ecc::Outcome, got: &Memory, expected: &mut Memory) {
+    /// a record goes out, behind the count of its bytes
+    fn write(&mut self, record: impl FnOnce() -> Record) {
+        if let Some(out) = &mut self.out {
+            let Record(bytes) = record();
+            let long = bytes.len() as u64;
+            out.write_all(&long.to_le_bytes()).and_then(|_| out.write_all(&bytes)).expect("a record is written");
+        }
+    }
+
+    /// a call by the header: code, and all memory. What the oracle answers and leaves is handed back
+    fn by_c(&mut self, kind: Kind, g: &Given, before: &Memory) -> (ecc::Outcome, Memory) {
+        let (s, mut m, mut expected) = (g.settings, before.clone(), before.clone());
+        let c = g.record(&mut m);
+        let (what, o, code) = match kind {
+            Kind::Align => {
+                let o = aligner::align(&g.template, &g.input, g.w, g.h, g.config(), &mut expected);
+                ("align by the header", o, unsafe { c_align(&c) })
+            }
+            _ => {
+                let o = aligner::estimate(&g.input, g.w, g.h, g.config(), &mut expected);
+                ("estimate by the header", o, unsafe { c_estimate(&c) })
+            }
+        };
         if expected.pose.len() >= 4 {
             expected.pose[..4].copy_from_slice(&[o.theta, o.tx, o.ty, o.rho]);
         }
-        let mut told = [0; 2];
+        let (mut told, number_passes) = ([0; 2], [o.number as u32, o.passes as u32]);
         unsafe { c_told(code, told.as_mut_ptr()) };
-        self.hold(told == [o.number as u32, o.passes as u32], what);
-        self.hold(got.differs(expected).is_empty(), what);
+        self.hold(told == number_passes, what);
+        self.hold(m.differs(&expected).is_empty(), what);
+        self.write(|| {
+            let eps = s.eps.to_bits() as usize;
+            Record::new(kind, &[g.w, g.h, eps, s.max_iter, s.filter, s.edge].map(|n| n as u64))
+                .part(&g.template, &g.template, u8::to_le_bytes)
+                .part(&g.input, &g.input, u8::to_le_bytes)
+                .part(&before.state, &expected.state, u64::to_le_bytes)
+                .part(&before.store, &expected.store, u8::to_le_bytes)
+                .part(&before.work, &expected.work, f32::to_le_bytes)
+                .part(&before.marks, &expected.marks, u8::to_le_bytes)
+                .part(&before.pose, &expected.pose, f32::to_le_bytes)
+                .part(&[u32::MAX; 2], &number_passes, u32::to_le_bytes)
+        });
+        (o, expected)
     }
 
     /// a call by the wrapper: its outcome, with the matrix and the pins, and the memory but for the pose
@@ -209,11 +293,7 @@ fn calls(t: &mut Tally, count: usize) {
         let (g, m) = given(&mut s);
         let (set, w, h) = (g.settings, g.w, g.h);
 
-        let mut expected = m.clone();
-        let o = aligner::align(&g.template, &g.input, w, h, g.config(), &mut expected);
-        let mut by_c = m.clone();
-        let code = unsafe { c_align(&g.record(&mut by_c)) };
-        t.by_c("align by the header", code, &o, &by_c, &mut expected);
+        let (o, expected) = t.by_c(Kind::Align, &g, &m);
         let mut by_rust = m.clone();
         let got = quayhollow::align(&g.template, &g.input, w, h, set, &mut by_rust.work, &mut by_rust.marks);
         t.by_rust("align by the wrapper", got, &o, &mut by_rust, &expected);
@@ -224,11 +304,7 @@ fn calls(t: &mut Tally, count: usize) {
         if s.next() % 4 > 0 && m.store.len() >= g.template.len() {
             m.store[..g.template.len()].copy_from_slice(&g.template);
         }
-        let mut expected = m.clone();
-        let o = aligner::estimate(&g.input, w, h, g.config(), &mut expected);
-        let mut by_c = m.clone();
-        let code = unsafe { c_estimate(&g.record(&mut by_c)) };
-        t.by_c("estimate by the header", code, &o, &by_c, &mut expected);
+        let (o, expected) = t.by_c(Kind::Estimate, &g, &m);
         ends[o.number as usize] += 1;
         if let [a, b, c] = m.state[..] {
             let (mut by_rust, mut state) = (m.clone(), State([a, b, c]));
@@ -237,13 +313,16 @@ fn calls(t: &mut Tally, count: usize) {
             t.by_rust("estimate by the wrapper", got, &o, &mut by_rust, &expected);
         }
     }
-    println!("calls that end with each number from 0 to 13: {ends:?}");
+    if t.out.is_none() {
+        println!("calls that end with each number from 0 to 13: {ends:?}");
+    }
 }
 
 /// lengths for sides and edges of all kinds; the version, the defaults, and memory of no length at null
 fn lengths(t: &mut Tally) {
     let sides = [0, 1, 4, 7, 8, 9, 12, 350, 351, 400, 700, 4095, 4096, 4097, 1 << 32, usize::MAX];
-    let mut c = Given { template: vec![], input: vec![], w: 0, h: 0, settings: Settings::default() }.record(&mut Memory::default());
+    let nothing = |w: usize, h: usize| Given { template: vec![], input: vec![], w, h, settings: Settings::default() };
+    let mut c = nothing(0, 0).record(&mut Memory::default());
     for (w, h, edge) in sides.iter().flat_map(|&w| sides.iter().flat_map(move |&h| sides.map(|edge| (w, h, edge)))) {
         let n = pixels(w, h, edge);
         let store = if w > 4096 || h > 4096 { 0 } else { w * h };
@@ -252,6 +331,7 @@ fn lengths(t: &mut Tally) {
         let mut out = [9; 4];
         unsafe { c_lengths(&c, out.as_mut_ptr()) };
         t.hold(out == expected, "lengths by the header");
+        t.write(|| Record::new(Kind::Lengths, &[w, h, edge].map(|n| n as u64)).part(&[9; 4], &expected, usize::to_le_bytes));
         let got = [quayhollow::work_len(w, h, edge), quayhollow::marks_len(w, h, edge), quayhollow::store_len(w, h), quayhollow::version() as usize];
         t.hold(got == expected, "lengths by the wrapper");
     }
@@ -261,10 +341,10 @@ fn lengths(t: &mut Tally) {
     let expected = Settings { eps: oracle.eps, max_iter: oracle.max_iter, filter: oracle.gauss_filt_size, edge: oracle.resize_long_edge.unwrap() };
     t.hold(defaults == expected && Settings::default() == expected, "defaults");
 
-    (c.template, c.input, c.state, c.store, c.work, c.marks, c.pose) = (null(), null(), null_mut(), null_mut(), null_mut(), null_mut(), null_mut());
     for (w, h, align, estimate) in [(0, 0, 1, 11), (0, 9, 1, 11), (5000, 0, 2, 2), (3, 4, 1, 1)] {
-        (c.w, c.h) = (w, h);
-        t.hold(unsafe { [c_align(&c), c_estimate(&c)] } == [align, estimate], "null");
+        let (g, m) = (nothing(w, h), Memory::default());
+        let numbers = [Kind::Align, Kind::Estimate].map(|kind| t.by_c(kind, &g, &m).0.number);
+        t.hold(numbers == [align, estimate], "null");
     }
 }
 
@@ -280,29 +360,32 @@ fn answers(t: &mut Tally, count: usize) {
         let (theta, tx, ty) = (number(&mut s), number(&mut s), number(&mut s));
         let no = pick(&mut s, &[0, 0, 0, 1, 10, 13, 128, 255]);
         let o = ecc::Outcome { number: no, passes: 0, theta, tx, ty, rho: 0.0 };
-        let three = pins(&o);
-        let nine: Vec<u32> = ecc::matrix(&o).concat().iter().map(|x| x.to_bits()).collect();
+        let (three, nine) = (pins(&o), ecc::matrix(&o).concat());
 
         let long = pick(&mut s, &[9, 9, 10, 12, 8, 0]);
-        let mut matrix = s.floats(long);
-        let mut got: Vec<i16> = (0..pick(&mut s, &[3, 3, 4, 6, 2, 0])).map(|i| 1000 + i).collect();
-        let mut all: Vec<u32> = matrix.iter().map(|x| x.to_bits()).collect();
-        let mut whole = got.clone();
+        let (floats, numbers) = (s.floats(long), (0..pick(&mut s, &[3, 3, 4, 6, 2, 0])).map(|i| 1000 + i).collect::<Vec<i16>>());
+        let (mut all, mut whole) = (floats.clone(), numbers.clone());
         if all.len() >= 9 {
             all[..9].copy_from_slice(&nine);
         }
         if whole.len() >= 3 {
             whole[..3].copy_from_slice(&three);
         }
+        let (mut matrix, mut got) = (floats.clone(), numbers.clone());
         let (matrix_len, pins_len) = (matrix.len(), got.len());
-        let a = Handed { number: no, theta, tx, ty, matrix: matrix.as_mut_ptr(), matrix_len, pins: got.as_mut_ptr(), pins_len };
+        let a = Handed { number: no, theta, tx, ty, matrix: lent(&mut matrix), matrix_len, pins: lent(&mut got), pins_len };
         unsafe { c_matrix(&a) };
         unsafe { c_pins(&a) };
-        t.hold(matrix.iter().map(|x| x.to_bits()).eq(all), "matrix by the header");
+        t.hold(bits(&matrix) == bits(&all), "matrix by the header");
         t.hold(got == whole, "pins by the header");
+        t.write(|| {
+            Record::new(Kind::Answer, &[no as u32, theta.to_bits(), tx.to_bits(), ty.to_bits()].map(|n| n as u64))
+                .part(&floats, &all, f32::to_le_bytes)
+                .part(&numbers, &whole, i16::to_le_bytes)
+        });
         if no == 0 {
             let answer = Answer::Posed(Pose { theta, tx, ty, rho: 0.0 });
-            t.hold(answer.matrix().concat().iter().map(|x| x.to_bits()).eq(nine), "matrix by the wrapper");
+            t.hold(bits(&answer.matrix().concat()) == bits(&nine), "matrix by the wrapper");
             let p = answer.pins();
             t.hold([p.dx, p.dy, p.turn] == three, "pins by the wrapper");
         }
@@ -310,11 +393,16 @@ fn answers(t: &mut Tally, count: usize) {
 }
 
 fn main() {
-    let count = std::env::args().nth(1).map_or(20_000, |n| n.parse().expect("CALLS is a number"));
-    let mut t = Tally { tried: 0, wrong: 0 };
+    let mut words = std::env::args().skip(1).peekable();
+    let out = words.next_if(|w| w == "--write").map(|_| BufWriter::new(stdout()));
+    let count = words.next().map_or(20_000, |n| n.parse().expect("CALLS is a number"));
+    let mut t = Tally { tried: 0, wrong: 0, out };
     lengths(&mut t);
     answers(&mut t, count);
     calls(&mut t, count);
-    println!("compared {}, {} differences", t.tried, t.wrong);
+    match &mut t.out {
+        Some(out) => out.flush().expect("the records are written"),
+        None => println!("compared {}, {} differences", t.tried, t.wrong),
+    }
     std::process::exit((t.wrong > 0) as i32);
 }

@@ -243,7 +243,8 @@ fn plain(s: &mut Stream) -> Vec<Call> {
     all
 }
 
-/// flat frames, blurred: their norm comes from rounding alone. Those nearest to 1e-6 from below and from above, as template and as input
+/// flat frames, blurred: their norm comes from rounding alone. The smallest that ends in a pose (docs/DIFFERENCES.md), and those nearest to 1e-6 from
+/// below and from above, as template and as input
 fn faint() -> Vec<Call> {
     let (mut below, mut above) = ((0.0, 0, 0, 0), (1.0, 0, 0, 0));
     for (w, level, filter) in (5..10).flat_map(|w| (1..=255).flat_map(move |v| (3..=31).step_by(2).map(move |f| (w, v, f)))) {
@@ -258,7 +259,9 @@ fn faint() -> Vec<Call> {
             above = (norm, w, level, filter);
         }
     }
-    let mut all = Vec::new();
+    let mut white = vec![0; 25];
+    white[9] = 255;
+    let mut all = vec![call(5, 5, &[8; 25], &white).filter(3).passes(100)];
     for (_, w, level, filter) in [below, above] {
         let (flat, other) = (vec![level; w * w], seen(80, CELL, w, w, [0.0; 3]));
         all.extend([call(w, w, &flat, &other).filter(filter), call(w, w, &other, &flat).filter(filter), call(w, w, &flat, &flat).filter(filter)]);

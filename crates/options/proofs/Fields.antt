@@ -8,7 +8,6 @@ use borrow.Author.Tests.{leb-true}
 use lib.Ieee.{binary32, round}
 use lib.Ieee.Bits.{toBits-lt, ofBits-fits}
 use lib.Ieee.Fits.{round-fits}
-use lib.ListN.{length}
 use Rattle.lists.proofs.Cases.{either}
 use Rattle.scan.specs.Scan.{digitsAt}
 use Rattle.settings.specs.Settings.{defaultsOf}
@@ -17,20 +16,20 @@ use Rattle.options.specs.declared.Value.the-variants.{Is, Wrong}
 use Rattle.options.specs.declared.Options.{Options}
 use Rattle.options.specs.declared.Taken.{Taken}
 use Rattle.options.specs.declared.Taken.the-variants.{Settings, Picture, Bad}
-use Rattle.options.specs.Words.{wholeOf, ratioOf, behindOf, pointOf, epsOf, onValue, withEps, withPasses, withFilter, withEdge, wordOf, optionsOf, Ranged}
+use Rattle.options.specs.Words.{wholeOf, ratioOf, exponentOf, tailOf, behindOf, epsOf, onValue, withEps, withPasses, withFilter, withEdge, otherOf, wordOf, optionsOf, Ranged}
 
 unfoldable RangedTaken : Taken → Type 0
 RangedTaken (Settings o) = Ranged o
 RangedTaken Picture = Unit {0}
-RangedTaken Bad = Unit {0}
+RangedTaken (Bad k) = Unit {0}
 
 unfoldable Below : ℕ → Value → Type 0
 Below m (Is n) = n < m
-Below m Wrong = Unit {0}
+Below m (Wrong k) = Unit {0}
 
-wrong : (m : ℕ) → Below m Wrong
+wrong : (m k : ℕ) → Below m (Wrong k)
 unfolding Below
-wrong m = tt
+wrong m k = tt
 
 is : (m n : ℕ) → n < m → Below m (Is n)
 unfolding Below
@@ -40,50 +39,66 @@ below-whole : (s : List ℕ) (a most : ℕ) → Below (most + 1) (wholeOf s a mo
 unfolding wholeOf
 below-whole s a most =
     either (Below (most + 1)) _ _ _
-    (λ p. either (Below (most + 1)) _ _ _ (λ q. either (Below (most + 1)) _ _ _ (λ r. is _ _ (omega (arith, leb-true _ most r))) (λ r. wrong _)) (λ q. wrong _)) (λ p. wrong _)
+    (λ p. either (Below (most + 1)) _ _ _ (λ q. either (Below (most + 1)) _ _ _ (λ r. is _ _ (omega (arith, leb-true _ most r))) (λ r. wrong _ 4)) (λ q. wrong _ 3)) (λ p. wrong _ 3)
 
-below-ratio : (n k : ℕ) → Below 4294967296 (ratioOf n k)
+abbrev Fits : Value → Type 0
+Fits = Below 4294967296
+
+fits-ratio : (n k : ℕ) → Fits (ratioOf n k)
 unfolding ratioOf
-below-ratio n k =
-    either (Below 4294967296) _ _ _
-    (λ p. either (Below 4294967296) _ _ _ (λ q. is _ _ (toBits-lt binary32 (round binary32 false n (10 ^ k)) (round-fits binary32 false n (10 ^ k)))) (λ q. wrong _)) (λ p. wrong _)
+fits-ratio n k =
+    either Fits _ _ _
+    (λ p. either Fits _ _ _ (λ q. is _ _ (toBits-lt binary32 (round binary32 false n (10 ^ k)) (round-fits binary32 false n (10 ^ k)))) (λ q. wrong _ 7)) (λ p. wrong _ 6)
 
-below-behind : (s : List ℕ) (b v : ℕ) → Below 4294967296 (behindOf s b v)
+fits-exponent : (s : List ℕ) (b n k : ℕ) → Fits (exponentOf s b n k)
+unfolding exponentOf
+fits-exponent s b n k =
+    either Fits _ _ _ (λ p. either Fits _ _ _ (λ q. fits-ratio n (k + digitsAt s b 0 8 .value)) (λ q. wrong _ 5)) (λ p. wrong _ 5)
+
+fits-tail : (s : List ℕ) (b n k : ℕ) → Fits (tailOf s b n k)
+unfolding tailOf
+fits-tail s b n k =
+    either Fits _ _ _ (λ p. fits-ratio n k) (λ p. either Fits _ _ _ (λ q. fits-exponent s (b + 2) n k) (λ q. wrong _ 5))
+
+fits-behind : (s : List ℕ) (a b v : ℕ) → Fits (behindOf s a b v)
 unfolding behindOf
-below-behind s b v = either (Below 4294967296) _ _ _ (λ p. below-ratio (digitsAt s b v 16777217 .value) (length s - b)) (λ p. wrong _)
+fits-behind s a b v =
+    let d = digitsAt s b v 16777217 in
+    either Fits _ _ _ (λ p. fits-tail s (d .next) (d .value) (d .next - b)) (λ p. wrong _ 5)
 
-below-point : (s : List ℕ) (b v : ℕ) → Below 4294967296 (pointOf s b v)
-unfolding pointOf
-below-point s b v =
-    either (Below 4294967296) _ _ _ (λ p. below-ratio v 0) (λ p. either (Below 4294967296) _ _ _ (λ q. below-behind s (b + 1) v) (λ q. wrong _))
-
-below-eps : (s : List ℕ) (a : ℕ) → Below 4294967296 (epsOf s a)
+fits-eps : (s : List ℕ) (a : ℕ) → Fits (epsOf s a)
 unfolding epsOf
-below-eps s a =
-    either (Below 4294967296) _ _ _ (λ p. below-point s (digitsAt s a 0 16777217 .next) (digitsAt s a 0 16777217 .value)) (λ p. wrong _)
+fits-eps s a =
+    let d = digitsAt s a 0 16777217 in
+    either Fits _ _ _ (λ p. fits-behind s a (d .next + 1) (d .value))
+    (λ p. either Fits _ _ _ (λ q. fits-tail s (d .next) (d .value) 0) (λ q. wrong _ 5))
 
 on-value : (m : ℕ) (v : Value) (f : ℕ → Options) → Below m v → ((n : ℕ) → n < m → Ranged (f n)) → RangedTaken (onValue v f)
 unfolding Below onValue RangedTaken
 on-value m (Is n) f h g = g n h
-on-value m Wrong f h g = tt
+on-value m (Wrong k) f h g = tt
 
-bad : RangedTaken Bad
+bad : (k : ℕ) → RangedTaken (Bad k)
 unfolding RangedTaken
-bad = tt
+bad k = tt
 
 picture : RangedTaken Picture
 unfolding RangedTaken
 picture = tt
 
+other : (s : List ℕ) → RangedTaken (otherOf s)
+unfolding otherOf
+other s = either RangedTaken _ _ _ (λ a. bad 1) (λ a. either RangedTaken _ _ _ (λ b. bad 2) (λ b. picture))
+
 -- THE LAW
 ranged : (o : Options) (s : List ℕ) → Ranged o → RangedTaken (wordOf o s)
 unfolding wordOf
 ranged o s r =
-    either RangedTaken _ _ _ (λ a. on-value 4294967296 (epsOf s 6) (withEps o) (below-eps s 6) (λ n h. record { eps = h; passes = r .passes; filter = r .filter; edge = r .edge }))
+    either RangedTaken _ _ _ (λ a. on-value 4294967296 (epsOf s 6) (withEps o) (fits-eps s 6) (λ n h. record { eps = h; passes = r .passes; filter = r .filter; edge = r .edge }))
     (λ a. either RangedTaken _ _ _ (λ b. on-value 4294967296 (wholeOf s 11 4294967295) (withPasses o) (below-whole s 11 4294967295) (λ n h. record { eps = r .eps; passes = h; filter = r .filter; edge = r .edge }))
     (λ b. either RangedTaken _ _ _ (λ d. on-value 65536 (wholeOf s 9 65535) (withFilter o) (below-whole s 9 65535) (λ n h. record { eps = r .eps; passes = r .passes; filter = h; edge = r .edge }))
     (λ d. either RangedTaken _ _ _ (λ e. on-value 4294967296 (wholeOf s 7 4294967295) (withEdge o) (below-whole s 7 4294967295) (λ n h. record { eps = r .eps; passes = r .passes; filter = r .filter; edge = h }))
-    (λ e. either RangedTaken _ _ _ (λ g. bad) (λ g. picture)))))
+    (λ e. other s))))
 
 pub defaults-ranged : Ranged (optionsOf defaultsOf)
 unfolding optionsOf

@@ -1,4 +1,5 @@
 pub mod Prefix
+pub mod Within
 pub mod Tens
 pub mod Values
 pub mod Fields

@@ -1,14 +1,23 @@
 -- Whether one list begins with another, element after element. Assumes nothing.
 use Prim.Native.Nat.{ℕ, suc, _+_, _≤_, _<_}
 use mathlib.Core.Path.{_≡_, sym, ap, _∙_}
-use mathlib.Core.Bool.{Bool, true, false, _&&_}
+use mathlib.Core.Bool.{Bool, true, false, _&&_, true≢false}
 use mathlib.Core.List.{List, [], _∷_}
 use native.Mathlib.Numerals.{add-one}
+use native.Mathlib.Omega.{arith}
 use borrow.Author.Tests.{eq-eqb, ne-eqb}
 use lib.Dec.{eqb}
 use lib.ListN.{length, drop, getD, drop-of-length-le}
 use lib.Seq.{drop-cons}
+use Rattle.lists.proofs.Cases.{choose}
 use Rattle.options.specs.Words.{begins}
+
+-- what begins with a list is no shorter
+pub begins-long : (s p : List ℕ) → begins s p ≡ true → length p ≤ length s
+unfolding begins
+begins-long s [] e = omega arith
+begins-long [] (b ∷ p) e = absurd (true≢false (sym e))
+begins-long (c ∷ s) (b ∷ p) e = choose (eqb c b) (λ g. omega (arith, begins-long s p (sym (ap (λ (t : Bool). t && begins s p) g) ∙ e))) (λ g. absurd (true≢false (sym e ∙ ap (λ (t : Bool). t && begins s p) g)))
 
 -- from i on it is still to be seen
 pub record Begun (s p : List ℕ) (i : ℕ) : Type 0 where

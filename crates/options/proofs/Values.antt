@@ -8,10 +8,10 @@ use Rattle.options.specs.declared.Taken.the-variants.{Settings, Bad}
 use Rattle.options.specs.Words.{onValue}
 
 module _ (f : ℕ → Options) {v w : Value} (e : v ≡ w) where
-  pub no-value : v ≡ Wrong → Bad ≡ onValue w f
+  pub no-value : (k : ℕ) → v ≡ Wrong k → Bad k ≡ onValue w f
   unfolding onValue
-  no-value k = sym (ap (λ (z : Value). onValue z f) (sym e ∙ k))
+  no-value k h = sym (ap (λ (z : Value). onValue z f) (sym e ∙ h))
 
   pub a-value : (n : ℕ) → v ≡ Is n → Settings (f n) ≡ onValue w f
   unfolding onValue
-  a-value n k = sym (ap (λ (z : Value). onValue z f) (sym e ∙ k))
+  a-value n h = sym (ap (λ (z : Value). onValue z f) (sym e ∙ h))

@@ -46,7 +46,7 @@ module _ (run : Run) (r : Ranged (run .options)) {t : List ℕ} (rest : Records 
   unfolding takenBytes
   taken-read a (Settings o) = rest
   taken-read a Picture = file-read (openedFile (a .fd) (a .file))
-  taken-read a Bad = rest
+  taken-read a (Bad k) = rest
 
   told-read : (x : WordTold) → Before (toldBytes run x)
   told-read x = pick-both Before (isZero (x .error)) _ _ (taken-read (x .answers) (wordOf (run .options) (x .word))) rest
@@ -72,7 +72,7 @@ module _ (run : Run) (r : Ranged (run .options)) where
   unfolding takenRun
   taken-ranged a s (Settings o) e = stays (run .options) s o r e
   taken-ranged a s Picture e = file-ranged (a .out) (openedFile (a .fd) (a .file))
-  taken-ranged a s Bad e = r
+  taken-ranged a s (Bad k) e = r
 
 told-ranged : (run : Run) → Ranged (run .options) → (x : WordTold) → Ranged (toldRun run x .options)
 told-ranged run r x = pick-both (λ (z : Run). Ranged (z .options)) (isZero (x .error)) _ _ (taken-ranged (onwardOf run) r (x .answers) (x .word) (wordOf (run .options) (x .word)) refl) r

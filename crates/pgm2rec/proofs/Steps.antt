@@ -121,7 +121,7 @@ next-taken : (run : Run) (a : Answers) (w : Taken) → takenRun run a w .next �
 unfolding takenRun
 next-taken run a (Settings o) = refl
 next-taken run a Picture = next-file run (a .out) (openedFile (a .fd) (a .file))
-next-taken run a Bad = refl
+next-taken run a (Bad k) = refl
 
 pub next-told : (run : Run) (t : WordTold) → toldRun run t .next ≡ run .next + 1
 next-told run t =

@@ -129,12 +129,12 @@ pub record Opened (run : Run) (fd : ℤ) (buf : List ℕ) (r : Run) : Type 0 whe
 unfoldable pub takenRun : Run → Answers → Taken → Run
 takenRun run a (Settings o) = changedOf run o
 takenRun run a Picture = fileRun run (a .out) (openedFile (a .fd) (a .file))
-takenRun run a Bad = stoppedOf run
+takenRun run a (Bad k) = stoppedOf run
 
 unfoldable pub takenBytes : Run → Answers → Taken → List ℕ
 takenBytes run a (Settings o) = []
 takenBytes run a Picture = fileBytes run (openedFile (a .fd) (a .file))
-takenBytes run a Bad = []
+takenBytes run a (Bad k) = []
 
 unfoldable pub isZero : ℤ → Bool
 isZero (pos k) = eqb k 0

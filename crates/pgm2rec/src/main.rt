@@ -4,7 +4,7 @@
 //
 // Words are taken in order. A setting holds for the pictures behind it; before the first picture, and behind each change, a settings
 // record is written. At the first word that is wrong, or picture that is none, the program says so on standard error and ends; what it has
-// written are whole records.
+// written are whole records. A setting behind the last picture is named there too. `--help`, or no word at all, has the usage told.
 //
 // What the system answers is handed to a function whose contract settles what comes of it: `heard`, `opened`, `filled`, `written`.
 ghost use mathlib.Core.Path.{_≡_};
@@ -124,6 +124,35 @@ fn explain(path: &[u8], k: u8) {
     }
 }
 
+fn usage() {
+    say(
+        b"usage",
+        b"pgm2rec [--eps=DECIMAL] [--max-iter=N] [--filter=N] [--edge=N] PICTURE.. > records",
+    );
+}
+
+// Why a word is refused, by the table of crate options; the usage, where it is asked for.
+fn refuse(word: &[u8], k: u8) {
+    match k {
+        1 => usage(),
+        2 => say(
+            word,
+            b"no such setting; there are --eps=, --max-iter=, --filter=, --edge=",
+        ),
+        3 => say(word, b"no whole number such as 3 behind the ="),
+        4 => say(
+            word,
+            b"too large; at most 65535 for --filter, 4294967295 for --max-iter and --edge",
+        ),
+        5 => say(word, b"no decimal number such as 0.0001, .5 or 1e-4"),
+        6 => say(
+            word,
+            b"too many digits; at most 7 behind the point, and e-4 counts as 4",
+        ),
+        _ => say(word, b"too large; at most 16777216 without its point"),
+    }
+}
+
 // Puts the settings at the front of out, if they are new, and answers how many bytes they are.
 fn put_due(run: Run, out: &mut [u8]) -> usize
     requires { ⌜ 20 ≤ length (now out) ⌝ }
@@ -226,8 +255,8 @@ fn taken(run: Run, word: &[u8]) -> Run
     match kind {
         Taken::Settings(options) => changed(run, options),
         Taken::Picture => picture(run, word),
-        Taken::Bad => {
-            say(word, b"no such setting, or no number in its range");
+        Taken::Bad(k) => {
+            refuse(word, k);
             stopped(run)
         }
     }
@@ -275,12 +304,21 @@ fn is_idle(run: Run) -> bool
     run.is_new
 }
 
+// Names the last of count words, the first of which is the program's own name, as a setting; with no other word, tells the usage.
+fn say_idle(count: usize) {
+    if count < 2 {
+        usage();
+        return;
+    }
+    let mut bytes = io::buffer();
+    let n = os::arg(count - 1, &mut bytes);
+    say(&bytes[..n], b"no picture stands behind this setting");
+}
+
 fn main() {
-    let run = words(os::arg_count());
+    let count = os::arg_count();
+    let run = words(count);
     if is_idle(run) {
-        say(
-            b"usage",
-            b"pgm2rec [--eps=DECIMAL] [--max-iter=N] [--filter=N] [--edge=N] PICTURE.. > records",
-        );
+        say_idle(count);
     }
 }

@@ -1,8 +1,11 @@
 -- `options::take_word` asks for each beginning in turn. Assumes nothing.
 use mathlib.Core.Path.{sym, _∙_}
+use mathlib.Core.List.{[], _∷_}
 use borrow.Author.Needs.{needs}
+use denote.Ref.{now}
 use Rattle.lists.proofs.Cases.{pick-true, pick-false}
 use Rattle.options.specs.Words.{begins, wordOf}
+use Rattle.options.proofs.Prefix.{begins-long}
 use Rattle.options.proofs.take_word.Statement.{statement}
 use Rattle.options.proofs.take_word.Tie as tie
 
@@ -13,7 +16,8 @@ begins-requires : tie.Need-begins-requires
 begins-requires c κs = search needs
 
 with-eps-requires : tie.Need-with-eps-requires
-with-eps-requires c κs = search needs
+with-eps-requires c κs =
+    begins-long (now (c .before .before .before .before .args .s)) (45 ∷ 45 ∷ 101 ∷ 112 ∷ 115 ∷ 61 ∷ []) (sym (c .before .begins .ensures) ∙ c .if1 .taken)
 
 returns : tie.Need-returns
 unfolding wordOf
@@ -58,19 +62,12 @@ returns-4 : tie.Need-returns-4
 unfolding wordOf
 returns-4 c = c .with-edge .ensures ∙ sym (pick-false _ _ _ (sym (c .before .before .before .before .before .before .before .before .before .before .before .begins .ensures) ∙ c .before .before .before .before .before .before .before .before .before .before .if1 .left) ∙ pick-false _ _ _ (sym (c .before .before .before .before .before .before .before .before .begins2 .ensures) ∙ c .before .before .before .before .before .before .before .if2 .left) ∙ pick-false _ _ _ (sym (c .before .before .before .before .before .begins3 .ensures) ∙ c .before .before .before .before .if3 .left) ∙ pick-true _ _ _ (sym (c .before .before .begins4 .ensures) ∙ c .before .if4 .taken))
 
-slice-aggregate-begins-5 : tie.Need-slice-aggregate-begins-5
-slice-aggregate-begins-5 c = search needs
-
-begins-requires-5 : tie.Need-begins-requires-5
-begins-requires-5 c κs = search needs
+other-requires : tie.Need-other-requires
+other-requires c κs = search needs
 
 returns-5 : tie.Need-returns-5
 unfolding wordOf
-returns-5 c = sym (pick-false _ _ _ (sym (c .before .before .before .before .before .before .before .before .before .before .before .before .before .begins .ensures) ∙ c .before .before .before .before .before .before .before .before .before .before .before .before .if1 .left) ∙ pick-false _ _ _ (sym (c .before .before .before .before .before .before .before .before .before .before .begins2 .ensures) ∙ c .before .before .before .before .before .before .before .before .before .if2 .left) ∙ pick-false _ _ _ (sym (c .before .before .before .before .before .before .before .begins3 .ensures) ∙ c .before .before .before .before .before .before .if3 .left) ∙ pick-false _ _ _ (sym (c .before .before .before .before .begins4 .ensures) ∙ c .before .before .before .if4 .left) ∙ pick-true _ _ _ (sym (c .before .begins5 .ensures) ∙ c .if5 .taken))
-
-returns-6 : tie.Need-returns-6
-unfolding wordOf
-returns-6 c = sym (pick-false _ _ _ (sym (c .before .before .before .before .before .before .before .before .before .before .before .before .before .begins .ensures) ∙ c .before .before .before .before .before .before .before .before .before .before .before .before .if1 .left) ∙ pick-false _ _ _ (sym (c .before .before .before .before .before .before .before .before .before .before .begins2 .ensures) ∙ c .before .before .before .before .before .before .before .before .before .if2 .left) ∙ pick-false _ _ _ (sym (c .before .before .before .before .before .before .before .begins3 .ensures) ∙ c .before .before .before .before .before .before .if3 .left) ∙ pick-false _ _ _ (sym (c .before .before .before .before .begins4 .ensures) ∙ c .before .before .before .if4 .left) ∙ pick-false _ _ _ (sym (c .before .begins5 .ensures) ∙ c .if5 .left))
+returns-5 c = c .other .ensures ∙ sym (pick-false _ _ _ (sym (c .before .before .before .before .before .before .before .before .before .before .before .begins .ensures) ∙ c .before .before .before .before .before .before .before .before .before .before .if1 .left) ∙ pick-false _ _ _ (sym (c .before .before .before .before .before .before .before .before .begins2 .ensures) ∙ c .before .before .before .before .before .before .before .if2 .left) ∙ pick-false _ _ _ (sym (c .before .before .before .before .before .begins3 .ensures) ∙ c .before .before .before .before .if3 .left) ∙ pick-false _ _ _ (sym (c .before .before .begins4 .ensures) ∙ c .before .if4 .left))
 
 pub take-word-spec : {M : Type 1} → statement M
 take-word-spec =
@@ -92,7 +89,5 @@ take-word-spec =
     begins-requires-4
     with-edge-requires
     returns-4
-    slice-aggregate-begins-5
-    begins-requires-5
-    returns-5
-    returns-6)
+    other-requires
+    returns-5)

@@ -3,7 +3,7 @@ use mathlib.Core.Path.{_≡_, sym, ap, _∙_}
 use mathlib.Core.Bool.{true}
 use denote.Ref.{now}
 use lib.IntN.{pos}
-use Rattle.options.specs.declared.Taken.the-variants.{Picture, Bad}
+use Rattle.options.specs.declared.Taken.the-variants.{Picture}
 use Rattle.options.specs.Words.{wordOf}
 use Rattle.pgm2rec.specs.Course.{Answers, Unread, takenRun}
 use borrow.Author.Needs.{needs}
@@ -25,14 +25,11 @@ enum-told c = search needs
 picture-requires : tie.Need-picture-requires
 picture-requires c κs = search needs
 
-enum-told-2 : tie.Need-enum-told-2
-enum-told-2 c = search needs
+enum-known-kind-2 : tie.Need-enum-known-kind-2
+enum-known-kind-2 c = search needs
 
-slice-aggregate-say : tie.Need-slice-aggregate-say
-slice-aggregate-say c = search needs
-
-say-requires : tie.Need-say-requires
-say-requires c κs = search needs
+refuse-requires : tie.Need-refuse-requires
+refuse-requires c κs = search needs
 
 stopped-requires : tie.Need-stopped-requires
 stopped-requires c κs = search needs
@@ -60,7 +57,7 @@ returns-3 : tie.Need-returns-3
 unfolding takenRun
 returns-3 c =
     let a = c .before .before .before .before .before .before .before .args in
-    let e : wordOf (a .run .options) (now (a .word)) ≡ Bad = sym (c .before .before .before .before .before .take-word .ensures) ∙ c .before .before .before .enum-told2 .given .1 in
+    let e = sym (c .before .before .before .before .before .take-word .ensures) ∙ c .before .before .before .kind2 .given .1 in
     (nobody, c .stopped .ensures ∙ sym (ap (takenRun (a .run) nobody) e))
 
 pub taken-spec : {M : Type 1} → statement M
@@ -72,9 +69,8 @@ taken-spec =
     changed-requires
     enum-told
     picture-requires
-    enum-told-2
-    slice-aggregate-say
-    say-requires
+    enum-known-kind-2
+    refuse-requires
     stopped-requires
     returns
     returns-2
