@@ -150,8 +150,21 @@ def between(limit, n, signs):
     return some + ([TOP + b for b in some] if signs else [TOP])
 
 
+def roots(n):
+    """where the digits of a root are decided: subnormal powers of two and one less, ends of fields, squares, and the patterns around the square of
+    a middle of two f32, for n middles"""
+    some = [1 << k for k in range(23)] + [(1 << k) - 1 for k in range(2, 24)]
+    some += [(e << 23) + m for e in (1, 2, 3, 126, 127, 128, 253, 254) for m in (0, 1, 0x3fffff, 0x400000, 0x7fffff)]
+    some += [bits(q * q) for q in (2, 3, 5, 181, 1023, 2896, 2897, 4095)]
+    middles = stream(20261115)
+    for _ in range(n):
+        p = nearest(Fraction(2 ** 24 + 2 * (next(middles) % 2 ** 23) + 1, 2) ** 2)
+        some += [p - 1, p, p + 1]
+    return some
+
+
 KINDS = [
-    (1, 'sqrt', sqrt, anywhere(120)),
+    (1, 'sqrt', sqrt, anywhere(120) + roots(30)),
     (2, 'cos', cos, between(2, 40, True)),
     (3, 'sin', sin, between(2, 40, True)),
     (4, 'exp_neg', exp_neg, between(6, 60, False)),
