@@ -3,7 +3,7 @@ use mathlib.Core.Path.{_≡_, refl, sym, ap, ap₂, _∙_, subst}
 use Prim.Native.Nat.{ℕ, zero, suc, _+_, _-_, _*_, _/_, _^_, _≤_, _<_}
 use native.Mathlib.Nat.{lt-irrefl, le-trans, le-of-eq, lt-of-lt-of-le, lt-of-le-of-lt, zero-mul, mul-one, one-mul, mul-comm, mul-assoc, mul-right-comm, mul-pos, mul-lt-mul-of-pos-right, lt-of-mul-lt-mul-right, mul-mul-mul-comm, add-mul, le-add-right, le-add-left, le-of-lt}
 use native.Mathlib.Omega.{arith}
-use mathlib.Core.Bool.{Bool, true, false, cond, true≢false}
+use mathlib.Core.Bool.{Bool, true, false, cond}
 use lib.Dec.{T, ltb, ltb→lt, leb→le, lit<, lit≤, nltb→le, not-T, eqb·suc-zero}
 use lib.IntN.{ℤ, pos, negsuc}
 use lib.Pow.{pow-lt, pow-pos, pow-add, pow-mono}
@@ -14,6 +14,7 @@ use lib.Ieee.Exact.{HasValue, round-exact}
 use lib.Ieee.Back.{round-whole}
 use lib.Ieee.Nearest.{div-same}
 use lib.Ieee.Scale.{round-same}
+use Rattle.floats.proofs.Values.{by-values}
 use Rattle.floats.proofs.Within.{rep-down, within-more}
 use Rattle.floats.specs.Bound.{Within, Rep}
 use Rattle.floats.specs.F32.{1f, half}
@@ -150,17 +151,14 @@ cross-add x y u v a b c h k =
     ∙ sym (add-mul a b (u * v))
 
 pub add-exact : (f : Format) (x y : Float) (a b c : ℕ) → Rep f (a + b) c → HasValue x false a c → HasValue y false b c → HasValue (add f x y) false (a + b) c
-add-exact f nan y a b c r h k = absurd h
-add-exact f (inf s) y a b c r h k = absurd h
-add-exact f (fin s m e) nan a b c r h k = absurd k
-add-exact f (fin s m e) (inf t) a b c r h k = absurd k
-add-exact f (fin true m e) (fin t n d) a b c r h k = absurd (true≢false (h .0))
-add-exact f (fin false m e) (fin true n d) a b c r h k = absurd (true≢false (k .0))
-add-exact f (fin false m e) (fin false n d) a b c r h k =
-    unfold add sum in
-    subst (λ (z : Float). HasValue z false (a + b) c)
-    (sym (round-same f false (m * up e * down d + n * up d * down e) (down e * down d) (a + b) c (mul-pos (down-pos e) (down-pos d)) (r .below) (cross-add (m * up e) (n * up d) (down e) (down d) a b c (h .1) (k .1))))
-    (round-rep f false (a + b) c r)
+add-exact f x y a b c r h k = by-values (λ x y. HasValue (add f x y) false (a + b) c) false false a c b c by x y h k
+  where
+    by : (m : ℕ) (e : ℤ) (n : ℕ) (d : ℤ) → m * up e * c ≡ a * down e → n * up d * c ≡ b * down d → HasValue (add f (fin false m e) (fin false n d)) false (a + b) c
+    by m e n d h k =
+        unfold add sum in
+        subst (λ (z : Float). HasValue z false (a + b) c)
+        (sym (round-same f false (m * up e * down d + n * up d * down e) (down e * down d) (a + b) c (mul-pos (down-pos e) (down-pos d)) (r .below) (cross-add (m * up e) (n * up d) (down e) (down d) a b c h k)))
+        (round-rep f false (a + b) c r)
 
 pub whole-is : (n : ℕ) → n ≤ 2 ^ 24 → HasValue (ofInt binary32 (pos n)) false n 1
 unfolding ofInt

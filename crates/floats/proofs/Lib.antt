@@ -11,3 +11,5 @@ pub mod Upward
 pub mod Casts
 pub mod Sums
 pub mod Products
+pub mod Zeros
+pub mod Wholes

@@ -17,6 +17,7 @@ use lib.Ieee.Scale.{finite, round-same}
 use Rattle.floats.specs.Bound.{Within, UpTo, AtLeast, Rep}
 use Rattle.floats.proofs.Within.{Signed, rep-down, round-signed, round-within, or-le, cond-within, le-within}
 use Rattle.floats.proofs.Exactly.{round-rep, whole-is}
+use Rattle.floats.proofs.Values.{by-values}
 use Rattle.floats.specs.F32.{_⊖_, f32}
 
 -- ---- from two tests: -y ≤ x ≤ y, y = a / c
@@ -47,7 +48,7 @@ within-of-le (fin true m e) (fin false n d) a c C v h k =
 -- ---- a difference of two values that are not negative is no larger than the larger
 
 -- the difference of two values that are not negative
-sub-is : (f : Format) (m : ℕ) (e : ℤ) (n : ℕ) (d : ℤ) → sub f (fin false m e) (fin false n d)
+pub sub-is : (f : Format) (m : ℕ) (e : ℤ) (n : ℕ) (d : ℤ) → sub f (fin false m e) (fin false n d)
     ≡ cond (ltb (m * up e * down d) (n * up d * down e)) (round f true (n * up d * down e - m * up e * down d) (down e * down d)) (round f false (m * up e * down d - n * up d * down e) (down e * down d))
 unfolding sub neg add sum
 sub-is f m e n d = refl
@@ -121,20 +122,17 @@ not-below x y u v a b c C h k l =
     C
 
 pub sub-exact : (f : Format) (x y : Float) (a b c : ℕ) → b ≤ a → Rep f (a - b) c → HasValue x false a c → HasValue y false b c → HasValue (sub f x y) false (a - b) c
-sub-exact f nan y a b c l r h k = absurd h
-sub-exact f (inf s) y a b c l r h k = absurd h
-sub-exact f (fin s m e) nan a b c l r h k = absurd k
-sub-exact f (fin s m e) (inf t) a b c l r h k = absurd k
-sub-exact f (fin true m e) (fin t n d) a b c l r h k = absurd (true≢false (h .0))
-sub-exact f (fin false m e) (fin true n d) a b c l r h k = absurd (true≢false (k .0))
-sub-exact f (fin false m e) (fin false n d) a b c l r h k =
-    let p : ℕ = m * up e * down d in
-    let q : ℕ = n * up d * down e in
-    let g : ltb p q ≡ false = is-false (ltb p q) (le→nltb p q (not-below (m * up e) (n * up d) (down e) (down d) a b c (r .below) (h .1) (k .1) l)) in
-    subst (λ (z : Float). HasValue z false (a - b) c)
-    (sym (sub-is f m e n d ∙ ap (λ (t : Bool). cond t (round f true (q - p) (down e * down d)) (round f false (p - q) (down e * down d))) g
-    ∙ round-same f false (p - q) (down e * down d) (a - b) c (mul-pos (down-pos e) (down-pos d)) (r .below) (cross-sub (m * up e) (n * up d) (down e) (down d) a b c (h .1) (k .1))))
-    (round-rep f false (a - b) c r)
+sub-exact f x y a b c l r h k = by-values (λ x y. HasValue (sub f x y) false (a - b) c) false false a c b c by x y h k
+  where
+    by : (m : ℕ) (e : ℤ) (n : ℕ) (d : ℤ) → m * up e * c ≡ a * down e → n * up d * c ≡ b * down d → HasValue (sub f (fin false m e) (fin false n d)) false (a - b) c
+    by m e n d h k =
+        let p : ℕ = m * up e * down d in
+        let q : ℕ = n * up d * down e in
+        let g : ltb p q ≡ false = is-false (ltb p q) (le→nltb p q (not-below (m * up e) (n * up d) (down e) (down d) a b c (r .below) h k l)) in
+        subst (λ (z : Float). HasValue z false (a - b) c)
+        (sym (sub-is f m e n d ∙ ap (λ (t : Bool). cond t (round f true (q - p) (down e * down d)) (round f false (p - q) (down e * down d))) g
+        ∙ round-same f false (p - q) (down e * down d) (a - b) c (mul-pos (down-pos e) (down-pos d)) (r .below) (cross-sub (m * up e) (n * up d) (down e) (down d) a b c h k)))
+        (round-rep f false (a - b) c r)
 
 -- from 0 ≤ x ≤ y, y = a / c
 pub up-to-of-le : (x y : Float) (a c : ℕ) → 0 < c → HasValue y false a c → T (le (fin false 0 (pos 0)) x) → T (le x y) → UpTo x a c

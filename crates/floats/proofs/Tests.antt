@@ -1,7 +1,7 @@
 -- Tests of values: of two that are not negative by their fractions, and against zero by the sign and the digits; how a zero and a whole number with a
 -- sign are written; how many digits a value has. Assumes nothing.
 use mathlib.Core.Path.{_≡_, refl, sym, ap, _∙_}
-use mathlib.Core.Bool.{Bool, true, false, not, _&&_, _||_, Bool·beq, cond, true≢false}
+use mathlib.Core.Bool.{Bool, true, false, not, _&&_, _||_, Bool·beq, cond}
 use Prim.Native.Nat.{ℕ, zero, suc, _*_, _^_, _<_, zero-le}
 use native.Mathlib.Nat.{add-zero, zero-mul, mul-one, mul-comm, mul-mul-mul-comm, mul-pos, mul-le-mul-right, mul-lt-mul-of-pos-right}
 use native.Mathlib.Omega.{arith}
@@ -9,12 +9,13 @@ use borrow.Author.Tests.{ltb-true, ltb-false, lt-ltb, le-ltb}
 use lib.Dec.{T, ltb, eqb, eqb·suc-zero, lit<}
 use lib.Pow.{pow-pos}
 use lib.IntN.{ℤ, pos}
-use lib.Ieee.{Float, nan, inf, fin, Format, binary32, prec, up, down, round, neg, lt, eq, ofInt, fits}
+use lib.Ieee.{Float, fin, Format, binary32, prec, up, down, round, neg, lt, eq, ofInt, fits}
 use lib.Ieee.Fits.{up-pos, down-pos}
 use lib.Ieee.Exact.{HasValue}
 use lib.Ieee.Scale.{round-same}
 use Rattle.floats.proofs.Within.{round-neg}
 use Rattle.floats.proofs.Exactly.{fits-few, round-value}
+use Rattle.floats.proofs.Values.{by-values}
 
 -- ---- tests of two values that are not negative
 
@@ -41,13 +42,8 @@ ltb-crossed x u y v a c b d U W C D h k =
 -- x < y for x = a / c and y = b / d
 pub lt-values : (x y : Float) (a c b d : ℕ) → 0 < c → 0 < d → HasValue x false a c → HasValue y false b d → lt x y ≡ ltb (a * d) (b * c)
 unfolding lt
-lt-values nan y a c b d C D h k = absurd h
-lt-values (inf s) y a c b d C D h k = absurd h
-lt-values (fin s m e) nan a c b d C D h k = absurd k
-lt-values (fin s m e) (inf t) a c b d C D h k = absurd k
-lt-values (fin true m e) (fin t n g) a c b d C D h k = absurd (true≢false (h .0))
-lt-values (fin false m e) (fin true n g) a c b d C D h k = absurd (true≢false (k .0))
-lt-values (fin false m e) (fin false n g) a c b d C D h k = ltb-crossed (m * up e) (down e) (n * up g) (down g) a c b d (down-pos e) (down-pos g) C D (h .1) (k .1)
+lt-values x y a c b d C D h k =
+    by-values (λ x y. lt x y ≡ ltb (a * d) (b * c)) false false a c b d (λ m e n g p q. ltb-crossed (m * up e) (down e) (n * up g) (down g) a c b d (down-pos e) (down-pos g) C D p q) x y h k
 
 -- ---- tests against zero
 

@@ -1,5 +1,5 @@
--- What is known of a value by its fraction or by a bound on it: that it is finite, its sign, other bounds. Assumes nothing.
-use mathlib.Core.Path.{_≡_, sym, ap, _∙_}
+-- What is known of a value by its fraction or by a bound on it: how it is written, that it is finite, its sign, other bounds. Assumes nothing.
+use mathlib.Core.Path.{_≡_, sym, ap, _∙_, subst}
 use mathlib.Core.Bool.{Bool, true, false, not}
 use Prim.Native.Nat.{ℕ, zero-le, _*_, _≤_}
 use native.Mathlib.Nat.{le-trans, le-of-eq, zero-mul, mul-right-comm, mul-le-mul-right, le-of-mul-le-mul-right}
@@ -11,6 +11,17 @@ use lib.Ieee.Exact.{HasValue}
 use lib.Ieee.Scale.{finite}
 use Rattle.floats.specs.Bound.{Within, UpTo}
 use Rattle.floats.specs.Units.{signOf}
+
+-- what holds of every way to write a value holds of the value: of ±a / c, and of two
+pub by-value : (P : Float → Type 0) (s : Bool) (a c : ℕ) → ((m : ℕ) (e : ℤ) → m * up e * c ≡ a * down e → P (fin s m e)) → (x : Float) → HasValue x s a c → P x
+by-value P s a c all nan h = absurd h
+by-value P s a c all (inf t) h = absurd h
+by-value P s a c all (fin t m e) h = subst (λ (u : Bool). P (fin u m e)) (sym (h .0)) (all m e (h .1))
+
+pub by-values : (P : Float → Float → Type 0) (s t : Bool) (a c b d : ℕ) →
+    ((m : ℕ) (e : ℤ) (n : ℕ) (g : ℤ) → m * up e * c ≡ a * down e → n * up g * d ≡ b * down g → P (fin s m e) (fin t n g)) →
+    (x y : Float) → HasValue x s a c → HasValue y t b d → P x y
+by-values P s t a c b d all x y h k = by-value (λ x. P x y) s a c (λ m e p. by-value (P (fin s m e)) t b d (λ n g q. all m e n g p q) y k) x h
 
 pub value-finite : (x : Float) (s : Bool) (a c : ℕ) → HasValue x s a c → T (finite x)
 value-finite nan s a c h = absurd h

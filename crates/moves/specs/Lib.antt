@@ -1,0 +1,4 @@
+pub mod Moves
+pub mod Calls
+pub mod Frames
+pub mod Needed
