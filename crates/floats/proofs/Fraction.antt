@@ -1,7 +1,7 @@
 -- What is left of a value above its whole part is exact: x - floor x, as bilinear sampling takes it. Assumes nothing.
 use mathlib.Core.Path.{_≡_, refl, sym, ap, _∙_, subst}
 use Prim.Native.Nat.{ℕ, zero, suc, _*_, _/_, _%_, _^_, _≤_}
-use native.Mathlib.Nat.{le-trans, le-of-eq, le-of-lt, mul-one, mod-le, mod-one, div-mul-le-self, mod-eq-sub-div-mul, zero-mul}
+use native.Mathlib.Nat.{le-trans, le-of-eq, le-of-lt, mul-one, mod-le, mod-lt, mod-one, div-mul-le-self, mod-eq-sub-div-mul, zero-mul}
 use native.Mathlib.Omega.{arith}
 use mathlib.Core.Bool.{false}
 use lib.Dec.{T, lit<, lit≤}
@@ -9,9 +9,10 @@ use lib.Pow.{pow-pos}
 use lib.IntN.{ℤ, pos, negsuc}
 use lib.Ieee.{fin, binary32, up, down, sub, ofInt, fits}
 use lib.Ieee.Exact.{HasValue}
-use Rattle.floats.specs.Bound.{Rep}
-use Rattle.floats.proofs.Within.{rep-down}
-use Rattle.floats.proofs.Exactly.{whole-is, value-over, fits-few, fits-low, pow-le}
+use lib.Ieee.Fits.{down-pos}
+use Rattle.floats.specs.Bound.{Within, Rep}
+use Rattle.floats.proofs.Within.{rep-down, within-more}
+use Rattle.floats.proofs.Exactly.{whole-is, value-over, value-within, fits-few, fits-low, pow-le}
 use Rattle.floats.proofs.Signs.{sub-exact}
 
 rep-rest : (m : ℕ) (e : ℤ) → T (fits binary32 (fin false m e)) → Rep binary32 (m * up e % down e) (down e)
@@ -41,3 +42,10 @@ fraction m e f h =
     (subst (λ (z : ℕ). Rep binary32 z c) (mod-eq-sub-div-mul x c) (rep-rest m e f))
     (refl, refl)
     (value-over (ofInt binary32 (pos n)) false n c (whole-is n h)))
+
+-- .. and at most 1
+pub fraction-within : (m : ℕ) (e : ℤ) → T (fits binary32 (fin false m e)) → m * up e / down e ≤ 2 ^ 24 → Within (sub binary32 (fin false m e) (ofInt binary32 (pos (m * up e / down e)))) 1 1
+fraction-within m e f h =
+    let x = m * up e in
+    let rest = sub binary32 (fin false m e) (ofInt binary32 (pos (x / down e))) in
+    within-more rest (x % down e) (down e) 1 1 (down-pos e) (value-within rest false (x % down e) (down e) (fraction m e f h)) (omega (arith, mod-lt x (down-pos e)))

@@ -10,6 +10,7 @@ pub mod Units
 pub mod Upward
 pub mod Casts
 pub mod Sums
+pub mod FromZero
 pub mod Products
 pub mod Zeros
 pub mod Wholes

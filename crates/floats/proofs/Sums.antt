@@ -1,11 +1,13 @@
 -- Sums of f32: their start and turn, what they depend on, and their bound. Assumes nothing.
-use mathlib.Core.Path.{_≡_, refl, sym, ap, subst}
+use mathlib.Core.Path.{_≡_, refl, ap}
 use mathlib.Core.Bool.{Bool, true, false}
-use Prim.Native.Nat.{ℕ, zero, suc, _+_, _*_, _^_, _≤_, _<_}
-use native.Mathlib.Numerals.{add-one}
+use Prim.Native.Nat.{ℕ, _+_, _*_, _^_, _≤_, _<_}
+use native.Mathlib.Nat.{mul-le-mul-right}
 use native.Mathlib.Omega.{arith}
+use lib.Dec.{lit<}
 use lib.Ieee.{Float, ofBits}
-use Rattle.lists.proofs.Fold.{over-none, over-marked, over-passed, over-agree}
+use Rattle.lists.specs.Marked.{countMarked}
+use Rattle.lists.proofs.Fold.{over-none, over-marked, over-passed, over-agree, counted-le, over-counted}
 use Rattle.floats.specs.Bound.{Within}
 use Rattle.floats.specs.F32.{_⊕_, 0f}
 use Rattle.floats.specs.Sums.{sumOver, sumTo}
@@ -46,19 +48,16 @@ zero-within : (k : ℕ) → Within 0f (0 * 2 ^ k) 1
 unfolding ofBits
 zero-within k = omega arith
 
--- one more place, marked or not
-turn-within : (k : ℕ) → k ≤ 103 → (m : ℕ → Bool) (f : ℕ → Float) (n : ℕ) → suc n ≤ 2 ^ 24 → Within (sumOver m f n) (n * 2 ^ k) 1 → (m n ≡ true → Within (f n) (2 ^ k) 1) → Within (sumOver m f (n + 1)) (suc n * 2 ^ k) 1
-turn-within k K m f n N w h = by (m n) refl
-  where
-    by : (b : Bool) → m n ≡ b → Within (sumOver m f (n + 1)) (suc n * 2 ^ k) 1
-    by true e = subst (λ (x : Float). Within x (suc n * 2 ^ k) 1) (sym (sum-marked m f n e)) (sum-step k K (sumOver m f n) (f n) n N w (h e))
-    by false e = subst (λ (x : Float). Within x (suc n * 2 ^ k) 1) (sym (sum-passed m f n e)) (within-more (sumOver m f n) (n * 2 ^ k) 1 (suc n * 2 ^ k) 1 (omega arith) w (omega arith))
+-- the number of marked places
+pub sum-within-count : (k : ℕ) → k ≤ 103 → (m : ℕ → Bool) (f : ℕ → Float) (n : ℕ) → n ≤ 2 ^ 24 → ((i : ℕ) → i < n → m i ≡ true → Within (f i) (2 ^ k) 1) → Within (sumOver m f n) (countMarked m n * 2 ^ k) 1
+unfolding sumOver
+sum-within-count k K m f n N h =
+    over-counted (λ x c. Within x (c * 2 ^ k) 1) m (λ s i. s ⊕ f i) 0f (zero-within k) n (λ t i c l C e w. sum-step k K t (f i) c (omega arith) w (h i l e))
 
+-- .. so that of all places
 pub sum-within : (k : ℕ) → k ≤ 103 → (m : ℕ → Bool) (f : ℕ → Float) (n : ℕ) → n ≤ 2 ^ 24 → ((i : ℕ) → i < n → m i ≡ true → Within (f i) (2 ^ k) 1) → Within (sumOver m f n) (n * 2 ^ k) 1
-sum-within k K m f zero N h = subst (λ (x : Float). Within x (0 * 2 ^ k) 1) (sym (sum-none m f)) (zero-within k)
-sum-within k K m f (suc n) N h =
-    subst (λ (j : ℕ). Within (sumOver m f j) (suc n * 2 ^ k) 1) (add-one n)
-    (turn-within k K m f n N (sum-within k K m f n (omega arith) (λ i l. h i (omega arith))) (h n (omega arith)))
+sum-within k K m f n N h =
+    within-more (sumOver m f n) (countMarked m n * 2 ^ k) 1 (n * 2 ^ k) 1 (lit< tt) (sum-within-count k K m f n N h) (omega (arith, mul-le-mul-right (2 ^ k) (counted-le m n)))
 
 -- `sum-within` over all places
 pub to-within : (k : ℕ) → k ≤ 103 → (f : ℕ → Float) (n : ℕ) → n ≤ 2 ^ 24 → ((i : ℕ) → i < n → Within (f i) (2 ^ k) 1) → Within (sumTo f n) (n * 2 ^ k) 1

@@ -9,7 +9,7 @@ use lib.Ieee.{Float, nan, inf, fin, up, down, isNan}
 use lib.Ieee.Fits.{down-pos}
 use lib.Ieee.Exact.{HasValue}
 use lib.Ieee.Scale.{finite}
-use Rattle.floats.specs.Bound.{Within, UpTo}
+use Rattle.floats.specs.Bound.{Within, UpTo, AtLeast}
 use Rattle.floats.specs.Units.{signOf}
 
 -- what holds of every way to write a value holds of the value: of ±a / c, and of two
@@ -22,6 +22,9 @@ pub by-values : (P : Float → Float → Type 0) (s t : Bool) (a c b d : ℕ) �
     ((m : ℕ) (e : ℤ) (n : ℕ) (g : ℤ) → m * up e * c ≡ a * down e → n * up g * d ≡ b * down g → P (fin s m e) (fin t n g)) →
     (x y : Float) → HasValue x s a c → HasValue y t b d → P x y
 by-values P s t a c b d all x y h k = by-value (λ x. P x y) s a c (λ m e p. by-value (P (fin s m e)) t b d (λ n g q. all m e n g p q) y k) x h
+
+pub value-at-least : (x : Float) (s : Bool) (a c : ℕ) → HasValue x s a c → AtLeast x a c
+value-at-least x s a c = by-value (λ x. AtLeast x a c) s a c (λ m e h. le-of-eq (sym h)) x
 
 pub value-finite : (x : Float) (s : Bool) (a c : ℕ) → HasValue x s a c → T (finite x)
 value-finite nan s a c h = absurd h

@@ -1,10 +1,12 @@
 -- Folds over marked places: only the marks and what stands at marked places count. Assumes nothing.
 use Prim.Native.Nat.{ℕ, zero, suc, _+_, _≤_, _<_}
-use mathlib.Core.Path.{_≡_, refl, sym, ap, _∙_}
-use mathlib.Core.Bool.{Bool, true, false}
+use mathlib.Core.Path.{_≡_, refl, sym, ap, _∙_, subst}
+use mathlib.Core.Bool.{Bool, true, false, true≢false}
+use mathlib.Core.Logic.{_⊎_, inl, inr}
+use native.Mathlib.Nat.{eq-or-lt-of-le, le-of-suc-le-suc}
 use native.Mathlib.Numerals.{add-one}
 use native.Mathlib.Omega.{arith}
-use Rattle.lists.specs.Marked.{pick, overMarked}
+use Rattle.lists.specs.Marked.{pick, overMarked, countMarked}
 use Rattle.lists.proofs.Cases.{pick-true, pick-false, pick-agree, pick-part}
 
 module _ {S : Type 0} (m : ℕ → Bool) (step : S → ℕ → S) (s : S) where
@@ -58,3 +60,39 @@ over-part {S} {T} p m step step′ s t (suc n) e f =
     pick-part p (m n) (step (overMarked m step s n) n) (overMarked m step s n)
     ∙ pick-agree (m n) (m n) (p (step (overMarked m step s n) n)) (step′ (overMarked m step′ t n) n) (p (overMarked m step s n)) (overMarked m step′ t n) refl
     (λ c. f (overMarked m step s n) n (omega arith) c ∙ ap (λ (v : T). step′ v n) so-far) (λ c. so-far)
+
+-- ---- by how many are marked
+
+-- one more place adds at most one
+counted-turn : (m : ℕ → Bool) (n : ℕ) → (countMarked m n ≤ countMarked m (n + 1)) × (countMarked m (n + 1) ≤ countMarked m n + 1) × (m n ≡ true → 0 < countMarked m (n + 1))
+counted-turn m n = by (m n) refl
+  where
+    by : (b : Bool) → m n ≡ b → (countMarked m n ≤ countMarked m (n + 1)) × (countMarked m (n + 1) ≤ countMarked m n + 1) × (b ≡ true → 0 < countMarked m (n + 1))
+    by true e = let t = over-marked m (λ k i. k + 1) 0 n e in (omega arith, omega arith, λ y. omega arith)
+    by false e = let t = over-passed m (λ k i. k + 1) 0 n e in (omega arith, omega arith, λ y. absurd (true≢false (sym y)))
+
+pub counted-le : (m : ℕ → Bool) (n : ℕ) → countMarked m n ≤ n
+counted-le m zero = omega (arith, over-none m (λ k i. k + 1) 0)
+counted-le m (suc n) = subst (λ (k : ℕ). countMarked m k ≤ k) (add-one n) (omega (arith, counted-turn m n .1, counted-le m n))
+
+-- where a place is marked the count is above 0
+pub counted-some : (m : ℕ → Bool) (n i : ℕ) → i < n → m i ≡ true → 0 < countMarked m n
+counted-some m zero i l e = absurd (omega arith)
+counted-some m (suc n) i l e = subst (λ (k : ℕ). 0 < countMarked m k) (add-one n) (by (eq-or-lt-of-le (le-of-suc-le-suc l)) (λ q. counted-some m n i q e))
+  where
+    by : (i ≡ n) ⊎ (i < n) → (i < n → 0 < countMarked m n) → 0 < countMarked m (n + 1)
+    by (inl q) f = counted-turn m n .2 (subst (λ (k : ℕ). m k ≡ true) q e)
+    by (inr q) f = omega (arith, counted-turn m n .0, f q)
+
+-- THE LAW: what the start has with the count 0, and what a step at a marked place keeps with the count one up, the fold has with the count of all marked places
+module _ {S : Type 0} (P : S → ℕ → Type 0) (m : ℕ → Bool) (step : S → ℕ → S) (s : S) (starts : P s 0) where
+  pub over-counted : (n : ℕ) → ((t : S) (i c : ℕ) → i < n → c ≤ i → m i ≡ true → P t c → P (step t i) (suc c)) → P (overMarked m step s n) (countMarked m n)
+  over-counted zero keeps = rw (over-none m step s, over-none m (λ k i. k + 1) 0) starts
+  over-counted (suc n) keeps =
+      subst (λ (k : ℕ). P (overMarked m step s k) (countMarked m k)) (add-one n)
+      (by (m n) refl (keeps (overMarked m step s n) n (countMarked m n) (omega arith) (counted-le m n)) (over-counted n (λ t i c l. keeps t i c (omega arith))))
+    where
+      by : (b : Bool) → m n ≡ b → (m n ≡ true → P (overMarked m step s n) (countMarked m n) → P (step (overMarked m step s n) n) (suc (countMarked m n))) → P (overMarked m step s n) (countMarked m n) →
+          P (overMarked m step s (n + 1)) (countMarked m (n + 1))
+      by true e k h = rw (over-marked m step s n e, over-marked m (λ k i. k + 1) 0 n e, add-one (countMarked m n)) (k e h)
+      by false e k h = rw (over-passed m step s n e, over-passed m (λ k i. k + 1) 0 n e) h

@@ -7,3 +7,4 @@ pub mod Images
 pub mod Sets
 pub mod Fold
 pub mod Every
+pub mod Bytes

@@ -1,5 +1,5 @@
 -- Folds over the marked places of an image, in order. Definitions only.
-use Prim.Native.Nat.{ℕ, zero, suc}
+use Prim.Native.Nat.{ℕ, zero, suc, _+_}
 use mathlib.Core.Bool.{Bool, true, false}
 
 -- x where the test passes, y where it fails. It is shut, so that a proof can go by the two cases without opening the test
@@ -12,3 +12,7 @@ unfoldable pub overMarked : {S : Type 0} → (ℕ → Bool) → (S → ℕ → S
 unfolding pick
 overMarked m step s zero = s
 overMarked m step s (suc i) = pick (m i) (step (overMarked m step s i) i) (overMarked m step s i)
+
+-- how many of the places below n are marked
+abbrev pub countMarked : (ℕ → Bool) → ℕ → ℕ
+countMarked m n = overMarked m (λ k i. k + 1) 0 n

@@ -1,8 +1,8 @@
--- What the inner functions ask of sides, filter and lent memory, each said once. Definitions only.
-use Prim.Native.Nat.{ℕ, _*_, _%_, _≤_}
+-- What the inner functions ask of sides, filter and lent memory, and what is known of bytes, each said once. Definitions only.
+use Prim.Native.Nat.{ℕ, _*_, _%_, _≤_, _<_}
 use mathlib.Core.Path.{_≡_}
 use mathlib.Core.List.{List}
-use lib.ListN.{length}
+use lib.ListN.{length, getD}
 use lib.Ieee.{Float}
 
 -- sides in range: from 1 to 4,096
@@ -27,3 +27,7 @@ pub record RowScratch (w : ℕ) (spots : List ℕ) (across down : List Float) : 
   pub spots-fit : w ≤ length spots
   pub across-fit : w ≤ length across
   pub down-fit : w ≤ length down
+
+-- what a slice of bytes holds
+abbrev pub AreBytes : List ℕ → Type 0
+AreBytes xs = (i : ℕ) → getD xs i 0 < 256

@@ -7,7 +7,7 @@ use native.Mathlib.Numerals.{add-one}
 use native.Mathlib.Omega.{arith}
 use lib.Dec.{eqb}
 use lib.ListN.{getD}
-use Rattle.lists.proofs.Fold.{over-none, over-marked, over-passed, over-agree}
+use Rattle.lists.proofs.Fold.{over-none, over-marked, over-passed, over-agree, counted-le}
 use Rattle.marks.specs.Marks.{on, countOn}
 
 pub count-none : (ms : List ℕ) → countOn ms 0 ≡ 0
@@ -37,20 +37,9 @@ count-byte ms i h = by (getD ms i 0) refl h
         many : (b : ℕ) → suc (suc b) ≤ 1 → ⊥
         many b h = omega arith
 
--- one more place adds at most one
-turn-le : (ms : List ℕ) (n : ℕ) → countOn ms (n + 1) ≤ countOn ms n + 1
-turn-le ms n = by (on ms n) refl
-  where
-    by : (b : Bool) → on ms n ≡ b → countOn ms (n + 1) ≤ countOn ms n + 1
-    by true e = omega (arith, count-marked ms n e)
-    by false e = omega (arith, count-passed ms n e)
-
 pub count-le : (ms : List ℕ) (n : ℕ) → countOn ms n ≤ n
-count-le ms zero = omega (arith, count-none ms)
-count-le ms (suc n) = subst (λ (k : ℕ). countOn ms k ≤ k) (add-one n) (last (countOn ms (n + 1)) (countOn ms n) n (turn-le ms n) (count-le ms n))
-  where
-    last : (a b n : ℕ) → a ≤ b + 1 → b ≤ n → a ≤ n + 1
-    last a b n h k = omega arith
+unfolding countOn
+count-le ms n = counted-le (on ms) n
 
 -- marks that agree up to n count alike
 pub count-agree : (ms ms′ : List ℕ) (n : ℕ) → ((i : ℕ) → i < n → getD ms i 0 ≡ getD ms′ i 0) → countOn ms n ≡ countOn ms′ n

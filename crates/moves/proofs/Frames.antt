@@ -70,7 +70,7 @@ pub frames-move-exactly : FramesMoveExactly
 frames-move-exactly bytes w h tw th ksize p tx ty r s odd sized below m =
     let img = preparedOf bytes w h tw th ksize in
     let n = tw * th in
-    let b : Bounded img n 22 = prepared-bytes-within bytes below w h tw th (r .w-least, r .w-most, r .h-least, r .h-most, s .w-least, s .w-most, s .h-least, s .h-most) sized ksize (odd .most) (odd .odd) in
+    let b : Bounded img n 22 = prepared-bytes-within bytes w h tw th ksize r s odd sized below in
     let moved : (src : List Float) → AllF32 src n → Bounded src n 22 → _ = λ src f b. move-is-exact tw th src p tx ty s (all-finite src n 22 f b) m in
     record {
       input = moved img (prepared-f32 bytes w h tw th ksize sized) b;

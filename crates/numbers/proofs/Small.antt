@@ -18,6 +18,7 @@ use Rattle.floats.proofs.Within.{Signed, round-signed, round-within, within-fin
 use Rattle.floats.proofs.Exactly.{whole-is}
 use Rattle.floats.proofs.Signs.{up-to-of-le, up-to-more, round-at-least, sub-whole}
 use Rattle.floats.proofs.Tests.{lt-values, below-zero, zero-is}
+use Rattle.floats.proofs.Fraction.{fraction-within}
 use Rattle.numbers.specs.Numbers.{absOf, floorOf}
 use Rattle.numbers.proofs.Cast.{cast-floor}
 use Rattle.numbers.proofs.Whole.{part, large, floor-kept}
@@ -60,6 +61,16 @@ below x k K f h l =
     let less : lt x (f32 k) ≡ true = is-true (lt x (f32 k)) l in
     let u = up-to-of-le x (f32 k) k 1 (lit< tt) (whole-is k few) h (rw less tt) in
     record { small = up-to-more x k 4194304 K u; index = rw (index-is x k few f u) (part-lt x k few u less) }
+
+-- what is left of such a value above its index is at most 1
+pub rest-within : (x : Float) → T (fits binary32 x) → UpTo x 4194304 1 → Within (x ⊖ f32 (toUnsigned 64 (floorOf x))) 1 1
+rest-within x f u = rw (index-is x 4194304 (lit≤ tt) f u) (by x f u)
+  where
+    by : (x : Float) → T (fits binary32 x) → UpTo x 4194304 1 → Within (x ⊖ f32 (part x)) 1 1
+    by nan f u = absurd u
+    by (inf s) f u = absurd u
+    by (fin true m e) f u = subst (λ (x : Float). Within (x ⊖ f32 (part x)) 1 1) (zero-is true m e f u) (unfold ofInt sub add neg sum round in lit≤ tt)
+    by (fin false m e) f u = fraction-within m e f (omega (arith, part-le (fin false m e) 4194304 u))
 
 -- ---- between two whole numbers
 

@@ -50,11 +50,11 @@ module _ (map : Map) (w h x y : ℕ) where
   abbrev pub zeroedY : Float
   zeroedY = pick (markedAt map w h x y) (syOf map x y) 0f
 
-  fits-x : T (fits binary32 (sxOf map x y))
+  pub fits-x : T (fits binary32 (sxOf map x y))
   unfolding sxOf
   fits-x = add-fits binary32 _ _
 
-  fits-y : T (fits binary32 (syOf map x y))
+  pub fits-y : T (fits binary32 (syOf map x y))
   unfolding syOf
   fits-y = add-fits binary32 _ _
 
@@ -67,12 +67,18 @@ module _ (map : Map) (w h x y : ℕ) where
     unfolding markedAt
     zeroed-y = zeroed-below (markedAt map w h x y) (syOf map x y) (h - 1) (omega arith) (λ t. inside-y w h _ _ t H fits-y)
 
-    -- the four pixels of a marked one lie inside
+    -- the point of a marked pixel, and that its four pixels lie inside
+    pub marked-x : markedAt map w h x y ≡ true → Below (sxOf map x y) (w - 1)
+    unfolding markedAt
+    marked-x e = inside-x w h (sxOf map x y) (syOf map x y) (rw e tt) W fits-x
+
+    pub marked-y : markedAt map w h x y ≡ true → Below (syOf map x y) (h - 1)
+    unfolding markedAt
+    marked-y e = inside-y w h (sxOf map x y) (syOf map x y) (rw e tt) H fits-y
+
     pub spot-in : markedAt map w h x y ≡ true → indexOf (syOf map x y) * w + indexOf (sxOf map x y) + w + 1 < w * h
-    unfolding markedAt indexOf
-    spot-in e =
-        let t : T (markedAt map w h x y) = rw e tt in
-        corner-in (indexOf (sxOf map x y)) (indexOf (syOf map x y)) w h (inside-x w h _ _ t W fits-x .index) (inside-y w h _ _ t H fits-y .index)
+    unfolding indexOf
+    spot-in e = corner-in (indexOf (sxOf map x y)) (indexOf (syOf map x y)) w h (marked-x e .index) (marked-y e .index)
 
   -- a place, as the code works it out from those coordinates
   pub place-of : (p : Place) → p .mark ≡ pick (markedAt map w h x y) 1 0 → PlaceAt w zeroedX zeroedY (p .at) (p .across) (p .down) → PlaceOf map w h x y p

@@ -16,7 +16,7 @@ use Rattle.floats.specs.Bound.{Within}
 use Rattle.floats.specs.F32.{_⊕_, _⊖_, _⊗_, f32, 1f}
 use Rattle.floats.proofs.Within.{Signed, within-more, add-within, sub-within, mul-within, rep-down, rep-up, rep-pow}
 use Rattle.floats.proofs.Exactly.{whole-is, value-over, value-within, one-value, whole-within}
-use Rattle.floats.proofs.Fraction.{fraction}
+use Rattle.floats.proofs.Fraction.{fraction-within}
 use Rattle.resize.specs.Resize.{placeOf, tapOf, lerpOf, byteOf, bilinearOf, resizeOf}
 use Rattle.numbers.proofs.Cast.{cast-negative}
 use Rattle.resize.proofs.Inside.{Placed, before-first, inside, placed, place-fits, under, first-cast}
@@ -40,10 +40,7 @@ weight-inside (fin true m e) n N N' f t w = absurd (true≢false t)
 weight-inside (fin false m e) n N N' f t w =
     let x = m * up e in
     let q : x / down e < n = div-lt-iff-lt-mul (down-pos e) .1 (under x (down e) n (down-pos e) N w) in
-    rw (min-eq-left {n = x / down e} {m = 2 ^ 64 - 1} (omega arith))
-    (within-more (fin false m e ⊖ f32 (x / down e)) (x % down e) (down e) 1 1 (down-pos e)
-    (value-within (fin false m e ⊖ f32 (x / down e)) false (x % down e) (down e) (fraction m e f (omega arith)))
-    (omega (arith, mod-lt x (down-pos e))))
+    rw (min-eq-left {n = x / down e} {m = 2 ^ 64 - 1} (omega arith)) (fraction-within m e f (omega arith))
 
 weight-placed : (s : Float) (n : ℕ) → 0 < n → n ≤ 4096 → T (fits binary32 s) → Placed s n → Within (s ⊖ f32 (toUnsigned 64 s)) 1 1
 weight-placed s n N N' f (before-first t w) = weight-before s t w

@@ -1,14 +1,14 @@
--- The sides after resizing: from sides of 1 to 4,096 and any edge they are from 1 to 4,096 again, so their product is at most 2 ^ 24.
+-- The sides after resizing: from sides of 1 to 4,096 and any edge they are from 1 to 4,096 again.
 -- A side is at most the longer one, and the edge is below it, so the scaled side is at most 4,096 before it is rounded. Assumes nothing.
 use mathlib.Core.Path.{_≡_, _∙_}
 use mathlib.Core.Bool.{false}
 use mathlib.Core.Logic.{_⊎_, inl, inr}
-use Prim.Native.Nat.{ℕ, _*_, _^_, _≤_, _<_, max}
-use native.Mathlib.Nat.{mul-le-mul}
+use Prim.Native.Nat.{ℕ, _*_, _≤_, _<_, max}
 use native.Mathlib.Omega.{arith}
 use lib.Dec.{ltb, lit<, lit≤}
 use lib.Ieee.{binary32, toUnsigned}
 use borrow.Author.Tests.{lt-ltb, le-ltb}
+use Rattle.lists.specs.Premises.{InRange}
 use Rattle.lists.proofs.Cases.{pick-true, pick-false}
 use Rattle.floats.specs.Bound.{UpTo}
 use Rattle.floats.specs.F32.{_⊘_, f32}
@@ -18,7 +18,6 @@ use Rattle.floats.proofs.Patterns.{lt-or-le}
 use Rattle.floats.proofs.Values.{upto-within}
 use Rattle.numbers.specs.Numbers.{roundOf}
 use Rattle.settings.specs.Sides.{scaledSideOf, sideOf, resizedOf}
-use Rattle.settings.specs.declared.Sides.{Sides}
 use Rattle.floats.proofs.Upward.{value-upto, round-upto, mul-upto}
 use Rattle.floats.proofs.Casts.{cast-within}
 use Rattle.numbers.proofs.Rounded.{roundOf-within}
@@ -66,29 +65,16 @@ module _ (edge w h : ℕ) where
 
 -- ---- their range
 
-pub record InRange (r : Sides) : Type 0 where
-  pub w-least : 1 ≤ r .w
-  pub w-most : r .w ≤ 4096
-  pub h-least : 1 ≤ r .h
-  pub h-most : r .h ≤ 4096
-  pub pixels : r .w * r .h ≤ 2 ^ 24
-
-pub in-range : (w h : ℕ) → 1 ≤ w → w ≤ 4096 → 1 ≤ h → h ≤ 4096 → InRange (record { w = w; h = h })
-in-range w h a b c d = record { w-least = a; w-most = b; h-least = c; h-most = d; pixels = mul-le-mul b d }
-
-pub resized-range : (edge w h : ℕ) → 1 ≤ w → w ≤ 4096 → 1 ≤ h → h ≤ 4096 → InRange (resizedOf edge w h)
-resized-range edge w h a b c d = go (lt-or-le 0 edge) (lt-or-le edge (max w h))
+pub resized-range : (edge w h : ℕ) → InRange w h → let s = resizedOf edge w h in InRange (s .w) (s .h)
+resized-range edge w h r = go (lt-or-le 0 edge) (lt-or-le edge (max w h))
   where
-    same : InRange (record { w = w; h = h })
-    same = in-range w h a b c d
-
     one : (s : ℕ) → edge < max w h → s ≤ max w h → (8 ≤ sideOf edge (max w h) s) × (sideOf edge (max w h) s ≤ 4096)
     one s l k = side-range edge (max w h) s (omega arith) (omega arith) (omega arith) k
 
-    go : (0 < edge) ⊎ (edge ≤ 0) → (edge < max w h) ⊎ (max w h ≤ edge) → InRange (resizedOf edge w h)
-    go (inr e) l = rw (resized-off edge w h e) same
-    go (inl e) (inr l) = rw (resized-kept edge w h e l) same
+    go : (0 < edge) ⊎ (edge ≤ 0) → (edge < max w h) ⊎ (max w h ≤ edge) → let s = resizedOf edge w h in InRange (s .w) (s .h)
+    go (inr e) l = rw (resized-off edge w h e) r
+    go (inl e) (inr l) = rw (resized-kept edge w h e l) r
     go (inl e) (inl l) =
         let x = one w l (omega arith) in
         let y = one h l (omega arith) in
-        rw (resized-scaled edge w h e l) (in-range (sideOf edge (max w h) w) (sideOf edge (max w h) h) (omega arith) (x .1) (omega arith) (y .1))
+        rw (resized-scaled edge w h e l) (record { w-least = omega arith; w-most = x .1; h-least = omega arith; h-most = y .1 })
