@@ -1,3 +1,4 @@
 pub mod Turns
 pub mod Loops
 pub mod Sizes
+pub mod Bounds

@@ -13,6 +13,7 @@ use Rattle.lists.proofs.Fill.{fills, Spaced, fills-none, take-fills, fills-more
 use Rattle.lists.proofs.Fold.{over-none}
 use Rattle.marks.specs.Marks.{on, countOn}
 use Rattle.floats.specs.F32.{_⊕_, _⊖_, _⊗_, _⊘_, f32, 0f}
+use Rattle.floats.specs.Sums.{sumOver}
 use Rattle.root.specs.Root.{sqrtOf}
 use Rattle.stats.specs.Stats.{meanOf, centredOf, productOf, statsOf, Centred}
 use Rattle.stats.specs.declared.Means.{Means}
@@ -43,13 +44,18 @@ module _ (ms : List ℕ) (n : ℕ) (part : List Float) where
     unfolding bothOf
     both-passed m = turn-passed ms add-both (0f, 0f) i s so-far m
 
+  -- a sum over the marked places, divided by their count
+  mean-is : (found : ℕ) (t nf : Float) (xs : List Float) → t ≡ sumOver (on ms) (λ i. getD xs i nan) n → found ≡ countOn ms n → nf ≡ f32 found → t ⊘ nf ≡ meanOf ms n xs
+  unfolding meanOf
+  mean-is found t nf xs e ec ef = ap₂ _⊘_ e (ef ∙ ap f32 (omega arith))
+
   pub means-of : (found : ℕ) (s : Means) (nf : Float) → s ≡ bothOf n → found ≡ countOn ms n → nf ≡ f32 found →
       _≡_ {A = Means} (s .0 ⊘ nf, s .1 ⊘ nf) (meanOf ms n (image n 3 part), meanOf ms n (image n 0 part))
-  unfolding bothOf meanOf
+  unfolding bothOf
   means-of found s nf e ec ef =
-      let a = sum-part ms add-both (0f, 0f) n (λ t. t .0) refl (λ i. getD (image n 3 part) i nan) (λ u i l m. refl) in
-      let b = sum-part ms add-both (0f, 0f) n (λ t. t .1) refl (λ i. getD (image n 0 part) i nan) (λ u i l m. refl) in
-      rw (e, ef, ec, a, b)
+      let a = mean-is found (s .0) nf (image n 3 part) (rw e (sum-part ms add-both (0f, 0f) n (λ t. t .0) refl (λ i. getD (image n 3 part) i nan) (λ u i l m. refl))) ec ef in
+      let b = mean-is found (s .1) nf (image n 0 part) (rw e (sum-part ms add-both (0f, 0f) n (λ t. t .1) refl (λ i. getD (image n 0 part) i nan) (λ u i l m. refl))) ec ef in
+      λ j. (a j, b j)
 
 -- ---- the centred images and their sums
 module _ (ms : List ℕ) (n : ℕ) (part₀ : List Float) (mean : Means) where

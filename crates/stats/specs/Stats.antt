@@ -32,7 +32,11 @@ statsOf marks n «template_zm» «image_zm» = record {
   corr = productOf marks n «template_zm» «image_zm»;
 }
 
+-- the statistics of a template and a warped image, which are centred first
+abbrev pub centeredStats : List ℕ → ℕ → List Float → List Float → Stats
+centeredStats marks n template warped = statsOf marks n (centredOf marks n template) (centredOf marks n warped)
+
 -- the part afterwards, and the answer
 pub record Centred (marks : List ℕ) (n : ℕ) (xs xs′ : List Float) (r : Stats) : Type 0 where
   pub images : xs′ ≡ setImage n 5 (centredOf marks n (image n 0 xs)) (setImage n 4 (centredOf marks n (image n 3 xs)) xs)
-  pub answer : r ≡ statsOf marks n (centredOf marks n (image n 3 xs)) (centredOf marks n (image n 0 xs))
+  pub answer : r ≡ centeredStats marks n (image n 3 xs) (image n 0 xs)
