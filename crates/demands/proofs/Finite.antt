@@ -21,6 +21,7 @@ use Rattle.lists.proofs.Fill.{front-is}
 use Rattle.floats.specs.Bound.{Within}
 use Rattle.floats.specs.F32.{0f, 2f}
 use Rattle.settings.specs.declared.EccConfig.{EccConfig}
+use Rattle.prepare.specs.Prepared.{preparedOf}
 use Rattle.checks.specs.Checks.{sizeOf, roomOf, limitsOf, checkOf}
 use Rattle.checks.proofs.Past.{past}
 use Rattle.pose.specs.Pose.{numberOf, unscaledOf, toldOf}
@@ -30,8 +31,9 @@ use Rattle.pose.specs.declared.Answer.the-variants.{Posed, Refused}
 use Rattle.pose.specs.declared.Outcome.{Outcome}
 use Rattle.solve.specs.declared.Step.{Step}
 use Rattle.solve.specs.declared.Step.the-variants.{Refuse, Stop, Move}
+use Rattle.pass.specs.Pass.{statsAt}
 use Rattle.runs.specs.Runs.{Run, going, stopped, refused, start, landed, next, after, outcomeOf}
-use Rattle.runs.proofs.Moves.{Sound, pass-sound}
+use Rattle.runs.proofs.Moves.{Sound, Refusals, SevenOrFinite, pass-sound}
 use Rattle.alignment.specs.Aligned.{passIn, runOf, alignedOf, workAfter, marksAfter}
 use Rattle.demands.specs.Finite.{endsIn, clears, CallEnded}
 
@@ -43,29 +45,30 @@ within-finite nan a c w = absurd w
 within-finite (inf s) a c w = absurd w
 within-finite (fin s m e) a c w = refl
 
--- after at most m passes: theta from -2 to 2 and a finite correlation, or a refusal from 5 to 10
-abbrev SoundRun : ℕ → Run → Type 0
-SoundRun m (going k p rho last) = (k ≤ m) × Within (p .theta) 2 1 × (finite rho ≡ true)
-SoundRun m (stopped k p rho) = (k ≤ m) × Within (p .theta) 2 1 × (finite rho ≡ true)
-SoundRun m (refused k n) = (k ≤ m) × (5 ≤ n) × (n ≤ 10)
+-- after at most m passes: theta from -2 to 2 and a finite correlation, or a refusal with one of the numbers N
+module _ (N : ℕ → Type 0) where
+  abbrev SoundRun : ℕ → Run → Type 0
+  SoundRun m (going k p rho last) = (k ≤ m) × Within (p .theta) 2 1 × (finite rho ≡ true)
+  SoundRun m (stopped k p rho) = (k ≤ m) × Within (p .theta) 2 1 × (finite rho ≡ true)
+  SoundRun m (refused k n) = (k ≤ m) × N n
 
-module _ (pass : Pose → Float → Step) (sound : (p : Pose) (last : Float) → Sound (pass p last)) where
-  landed-sound : (m k : ℕ) (p : Pose) → k ≤ m → Within (p .theta) 2 1 → (x : Step) → Sound x → SoundRun (suc m) (landed k p x)
-  unfolding landed Sound
-  landed-sound m k p h t (Refuse n) s = (omega (arith, h), s .0, s .1)
-  landed-sound m k p h t (Stop rho) s = (omega (arith, h), t, s)
-  landed-sound m k p h t (Move q rho) s = (omega (arith, h), s .0, s .1)
+  module _ (pass : Pose → Float → Step) (sound : (p : Pose) (last : Float) → Sound N (pass p last)) where
+    landed-sound : (m k : ℕ) (p : Pose) → k ≤ m → Within (p .theta) 2 1 → (x : Step) → Sound N x → SoundRun (suc m) (landed k p x)
+    unfolding landed Sound
+    landed-sound m k p h t (Refuse n) s = (omega (arith, h), s)
+    landed-sound m k p h t (Stop rho) s = (omega (arith, h), t, s)
+    landed-sound m k p h t (Move q rho) s = (omega (arith, h), s .0, s .1)
 
-  next-sound : (m : ℕ) (r : Run) → SoundRun m r → SoundRun (suc m) (next pass r)
-  unfolding next
-  next-sound m (going k p rho last) s = landed-sound m k p (s .0) (s .1) (pass p last) (sound p last)
-  next-sound m (stopped k p rho) s = (omega (arith, s .0), s .1, s .2)
-  next-sound m (refused k n) s = (omega (arith, s .0), s .1, s .2)
+    next-sound : (m : ℕ) (r : Run) → SoundRun m r → SoundRun (suc m) (next pass r)
+    unfolding next
+    next-sound m (going k p rho last) s = landed-sound m k p (s .0) (s .1) (pass p last) (sound p last)
+    next-sound m (stopped k p rho) s = (omega (arith, s .0), s .1, s .2)
+    next-sound m (refused k n) s = (omega (arith, s .0), s .1)
 
-  after-sound : (m : ℕ) → SoundRun m (after pass m)
-  unfolding after start neg ofBits
-  after-sound zero = (lit≤ tt, lit≤ tt, refl)
-  after-sound (suc m) = next-sound m (after pass m) (after-sound m)
+    after-sound : (m : ℕ) → SoundRun m (after pass m)
+    unfolding after start neg ofBits
+    after-sound zero = (lit≤ tt, lit≤ tt, refl)
+    after-sound (suc m) = next-sound m (after pass m) (after-sound m)
 
 -- ---- the answer
 
@@ -93,26 +96,34 @@ turn-in (fin true m e) w =
     let d = down-pos e in
     (at-most (m * up e * 1) (2 * down e) _ (omega (arith, w)) (λ q. eq-eqb _ _ (sym q)), rw (lt-ltb 0 (m * up e * 1 + 2 * down e) (omega (arith, d))) refl)
 
--- what passes come to: a pose as demand 1 asks, or a number from 5 to 10
-abbrev pub Late : Answer → Type 0
-Late (Posed theta tx ty rho) = T (endsIn 1 10 (Posed theta tx ty rho))
-Late (Refused n) = (5 ≤ n) × (n ≤ 10)
+-- what passes come to: a pose as demand 1 asks, or a refusal with one of the numbers N
+module _ (N : ℕ → Type 0) where
+  abbrev pub Late : Answer → Type 0
+  Late (Posed theta tx ty rho) = T (endsIn 1 10 (Posed theta tx ty rho))
+  Late (Refused n) = N n
 
-abbrev Ends : ℕ → Outcome → Type 0
-Ends m o = (o .passes ≤ m) × Late (o .answer)
+  abbrev pub Ends : ℕ → Outcome → Type 0
+  Ends m o = (o .passes ≤ m) × Late (o .answer)
 
-posed-late : (sx sy : Float) (p : Pose) (rho : Float) → Within (p .theta) 2 1 → finite rho ≡ true → Late (unscaledOf sx sy p rho)
-unfolding unscaledOf endsIn
-posed-late sx sy p rho t r =
-    let f = within-finite (p .theta) 2 1 t in
-    let i = turn-in (p .theta) t in
-    pick-where Late _ _ _ (λ x. pick-where Late _ _ _ (λ y. rw (f, x, y, r, i .0, i .1) tt) (lit≤ tt, lit≤ tt)) (lit≤ tt, lit≤ tt)
+  posed-late : (sx sy : Float) (p : Pose) (rho : Float) → N 10 → Within (p .theta) 2 1 → finite rho ≡ true → Late (unscaledOf sx sy p rho)
+  unfolding unscaledOf endsIn
+  posed-late sx sy p rho ten t r =
+      let f = within-finite (p .theta) 2 1 t in
+      let i = turn-in (p .theta) t in
+      pick-where Late _ _ _ (λ x. pick-where Late _ _ _ (λ y. rw (f, x, y, r, i .0, i .1) tt) ten) ten
 
-outcome-ends : (sx sy : Float) (m : ℕ) (r : Run) → SoundRun m r → Ends m (outcomeOf sx sy r)
-unfolding outcomeOf
-outcome-ends sx sy m (going k p rho last) s = (s .0, posed-late sx sy p rho (s .1) (s .2))
-outcome-ends sx sy m (stopped k p rho) s = (s .0, posed-late sx sy p rho (s .1) (s .2))
-outcome-ends sx sy m (refused k n) s = (s .0, (s .1, s .2))
+  outcome-ends : (sx sy : Float) (m : ℕ) (r : Run) → N 10 → SoundRun N m r → Ends m (outcomeOf sx sy r)
+  unfolding outcomeOf
+  outcome-ends sx sy m (going k p rho last) ten s = (s .0, posed-late sx sy p rho ten (s .1) (s .2))
+  outcome-ends sx sy m (stopped k p rho) ten s = (s .0, posed-late sx sy p rho ten (s .1) (s .2))
+  outcome-ends sx sy m (refused k n) ten s = s
+
+-- the numbers of passes
+abbrev pub FiveToTen : ℕ → Type 0
+FiveToTen n = (5 ≤ n) × (n ≤ 10)
+
+five-to-ten : Refusals FiveToTen
+five-to-ten = record { five = (lit≤ tt, lit≤ tt); six = (lit≤ tt, lit≤ tt); eight = (lit≤ tt, lit≤ tt); nine = (lit≤ tt, lit≤ tt); ten = (lit≤ tt, lit≤ tt) }
 
 -- ---- the checks have the numbers 1 to 4
 abbrev Early : ℕ → Type 0
@@ -149,7 +160,7 @@ is-false true t = absurd t
 is-false false t = refl
 
 -- 5 to 10 are of the table, and clear
-late : (a : Answer) → Late a → T (endsIn 1 10 a) × (clears (numberOf a) ≡ true)
+late : (a : Answer) → Late FiveToTen a → T (endsIn 1 10 a) × (clears (numberOf a) ≡ true)
 unfolding endsIn toldOf clears every
 late (Posed theta tx ty rho) t = (t, refl)
 late (Refused n) t =
@@ -167,11 +178,15 @@ early n h e =
 -- ---- the call
 
 module _ (template input : List ℕ) (w h : ℕ) (cfg : EccConfig) where
-  -- past the checks
-  pub run-ends : (tw th : ℕ) → Ends (cfg .«max_iter») (runOf template input w h tw th cfg)
+  -- past the checks, with any numbers N
+  pub run-among : (N : ℕ → Type 0) → Refusals N → (tw th : ℕ) → ((p : Pose) → let k = cfg .«gauss_filt_size» in SevenOrFinite N (statsAt (preparedOf template w h tw th k) (preparedOf input w h tw th k) tw th p)) →
+      Ends N (cfg .«max_iter») (runOf template input w h tw th cfg)
   unfolding runOf passIn
-  run-ends tw th =
-      outcome-ends _ _ _ _ (after-sound (passIn template input w h tw th cfg) (λ p last. pass-sound tw th (cfg .eps) p last _ _ _ _) (cfg .«max_iter»))
+  run-among N among tw th seven =
+      outcome-ends N _ _ _ _ (among .ten) (after-sound N (passIn template input w h tw th cfg) (λ p last. pass-sound N among tw th (cfg .eps) p last _ _ _ _ (seven p)) (cfg .«max_iter»))
+
+  pub run-ends : (tw th : ℕ) → Ends FiveToTen (cfg .«max_iter») (runOf template input w h tw th cfg)
+  run-ends tw th = run-among FiveToTen five-to-ten tw th (λ p. inl (lit≤ tt, lit≤ tt))
 
   module _ (k m : ℕ) where
     abbrev number : ℕ

@@ -7,7 +7,8 @@ use Rattle.lists.specs.Marked.{pick}
 use Rattle.marks.specs.Marks.{countOn}
 use Rattle.places.specs.Point.{marksOf}
 use Rattle.warp.specs.Warp.{warpOf}
-use Rattle.stats.specs.Stats.{centredOf, statsOf}
+use Rattle.stats.specs.Stats.{centredOf, centeredStats}
+use Rattle.stats.specs.declared.Stats.{Stats}
 use Rattle.verdict.specs.Verdict.{verdictOf}
 use Rattle.verdict.specs.declared.Verdict.{Verdict}
 use Rattle.verdict.specs.declared.Verdict.the-variants.{Bad, Settled, Unsettled}
@@ -30,8 +31,12 @@ weighedOf marks template warped gxw gyw w h eps p last =
     let n = w * h in
     let «template_zm» = centredOf marks n template in
     let «image_zm» = centredOf marks n warped in
-    let s = statsOf marks n «template_zm» «image_zm» in
+    let s = centeredStats marks n template warped in
     onward (verdictOf s last eps) (solveOf marks n p (steepOf w h (p .theta) gxw gyw) gxw gyw «template_zm» «image_zm» s)
+
+-- the statistics of a pass at a pose, over the pixels that it marks: of the prepared template and the warped input
+abbrev pub statsAt : List Float → List Float → ℕ → ℕ → Pose → Stats
+statsAt template input w h p = let map = affineFromThetaTxTy p in centeredStats (marksOf map w h) (w * h) template (warpOf input map w h)
 
 -- the pass of the prepared template over the prepared input and its gradients, at a pose
 unfoldable pub passOf : List Float → List Float → List Float → List Float → ℕ → ℕ → Float → Pose → Float → Step

@@ -30,7 +30,7 @@ use Rattle.aligner.specs.declared.EccAligner.{EccAligner}
 use Rattle.aligner.specs.declared.Reply.{Reply}
 use Rattle.aligner.proofs.Numbers.{taken}
 use Rattle.demands.specs.Finite.{endsIn, clears}
-use Rattle.demands.proofs.Finite.{Late, numbers, is-true, run-ends}
+use Rattle.demands.proofs.Finite.{Late, FiveToTen, numbers, is-true, run-ends}
 use Rattle.sequences.specs.Estimates.{CallMemory, frame, w, h, entering, Effect, untouched, kept, cleared, effectOf, isTaken, FrameKept, Did, EstimateEnded, EstimateEnds}
 
 -- ---- what the numbers tell
@@ -121,7 +121,7 @@ cleared-is untouched t = absurd t
 cleared-is kept t = absurd t
 cleared-is cleared t = refl
 
-late-told : (fits : Bool) (a : Answer) → Late a → Told fits true cleared a
+late-told : (fits : Bool) (a : Answer) → Late FiveToTen a → Told fits true cleared a
 unfolding endsIn toldOf clears effectOf pick every
 late-told fits (Posed theta tx ty rho) t = (t, refl, refl)
 late-told fits (Refused n) t =
@@ -171,7 +171,7 @@ module _ (x : CallMemory) (frame : List ℕ) (w h : ℕ) where
   refused-ends number e y l d = record { answer = l .0; few = omega arith; no-pass = λ c. refl; did = subst (λ (z : Effect). Did z frame w h x y) (sym (l .2)) d }
 
   -- past all checks
-  begun-ends : (o : Outcome) → entryOf t w h (length (x .store)) ≡ 0 → checkOf (w * h) t w h (x .aligner .cfg) k m ≡ 0 → o .passes ≤ x .aligner .cfg .«max_iter» → Late (o .answer) →
+  begun-ends : (o : Outcome) → entryOf t w h (length (x .store)) ≡ 0 → checkOf (w * h) t w h (x .aligner .cfg) k m ≡ 0 → o .passes ≤ x .aligner .cfg .«max_iter» → Late FiveToTen (o .answer) →
       EstimateEnded frame w h o x (takenAs (put (x .work) 0 (tab (12 * n) (λ _. 0f))) (put (x .marks) 0 (tab n (λ _. 0))))
   begun-ends o e c few late =
       let l = late-told fits (o .answer) late in
