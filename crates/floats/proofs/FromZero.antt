@@ -1,14 +1,13 @@
 -- Values from +0 to a bound: squares and their sums. And bounds from below: of a value that is not at most another, and of a product. Assumes nothing.
 use mathlib.Core.Path.{_≡_, refl, sym, _∙_}
-use mathlib.Core.Bool.{Bool, true, false, _||_, Bool·beq, cond, true≢false}
-use Prim.Native.Nat.{ℕ, suc, _+_, _*_, _^_, _≤_, _<_}
+use mathlib.Core.Bool.{Bool, true, false, _||_, true≢false}
+use Prim.Native.Nat.{ℕ, _+_, _*_, _^_, _≤_, _<_}
 use native.Mathlib.Nat.{le-trans, le-of-eq, mul-pos, mul-le-mul, mul-mul-mul-comm}
 use native.Mathlib.Omega.{arith}
 use borrow.Author.Tests.{ltb-false}
 use lib.Dec.{T, lit<}
 use lib.Pow.{pow-add}
-use lib.IntN.{ℤ}
-use lib.Ieee.{Float, nan, inf, fin, binary32, up, down, unlike, sum, add, mul, lt, eq, le, ofBits}
+use lib.Ieee.{Float, nan, inf, fin, binary32, up, down, sum, add, mul, lt, eq, le, ofBits}
 use lib.Ieee.Fits.{down-pos}
 use lib.Ieee.Exact.{HasValue}
 use lib.Ieee.Scale.{finite}

@@ -1,11 +1,13 @@
--- Sums of f32: their start and turn, what they depend on, and their bound. Assumes nothing.
+-- Sums of f32: their start and turn, what they depend on, that they are f32, and their bound. Assumes nothing.
 use mathlib.Core.Path.{_≡_, refl, ap}
 use mathlib.Core.Bool.{Bool, true, false}
 use Prim.Native.Nat.{ℕ, _+_, _*_, _^_, _≤_, _<_}
 use native.Mathlib.Nat.{mul-le-mul-right}
 use native.Mathlib.Omega.{arith}
-use lib.Dec.{lit<}
-use lib.Ieee.{Float, ofBits}
+use lib.Dec.{T, lit<}
+use lib.Ieee.{Float, binary32, fits, ofBits}
+use lib.Ieee.Bits.{ofBits-fits}
+use lib.Ieee.Fits.{add-fits}
 use Rattle.lists.specs.Marked.{countMarked}
 use Rattle.lists.proofs.Fold.{over-none, over-marked, over-passed, over-agree, counted-le, over-counted}
 use Rattle.floats.specs.Bound.{Within}
@@ -42,6 +44,15 @@ to-more f i = sum-marked (λ i. true) f i refl
 pub to-agree : (f g : ℕ → Float) (n : ℕ) → ((i : ℕ) → i < n → f i ≡ g i) → sumTo f n ≡ sumTo g n
 unfolding sumTo
 to-agree f g n e = sum-agree (λ i. true) (λ i. true) f g n (λ i l. refl) (λ i l k. e i l)
+
+-- ---- a sum is an f32, whatever its terms
+pub sum-fits : (m : ℕ → Bool) (f : ℕ → Float) (n : ℕ) → T (fits binary32 (sumOver m f n))
+unfolding sumOver
+sum-fits m f n = over-counted (λ x c. T (fits binary32 x)) m (λ s i. s ⊕ f i) 0f (ofBits-fits binary32 0) n (λ t i c l C e w. add-fits binary32 t (f i))
+
+pub to-fits : (f : ℕ → Float) (n : ℕ) → T (fits binary32 (sumTo f n))
+unfolding sumTo
+to-fits f n = sum-fits (λ i. true) f n
 
 -- ---- THE BOUND: up to 2 ^ 24 terms of size at most 2 ^ k sum to at most their number times 2 ^ k
 zero-within : (k : ℕ) → Within 0f (0 * 2 ^ k) 1

@@ -1,5 +1,5 @@
 -- How large a root is: that of a value from +0 to 2 ^ (a + a) is from +0 to 2 ^ (a + 1). Assumes nothing.
-use mathlib.Core.Path.{_≡_, refl, sym, ap, _∙_}
+use mathlib.Core.Path.{refl, sym, ap, _∙_}
 use mathlib.Core.Bool.{true, false, true≢false}
 use Prim.Native.Nat.{ℕ, zero, suc, _+_, _-_, _*_, _^_, _≤_, _<_}
 use native.Mathlib.Nat.{le-trans, le-of-eq, le-of-lt, lt-of-lt-of-le, mul-assoc, mul-comm, mul-one, mul-le-mul-right, mul-mul-mul-comm, zero-mul}
@@ -7,7 +7,6 @@ use native.Mathlib.Omega.{arith}
 use lib.Dec.{T, lt→ltb, lit<, lit≤}
 use lib.Pow.{pow-add}
 use lib.Ieee.{Float, nan, inf, fin, binary32, fits, up}
-use lib.Ieee.Exact.{HasValue}
 use lib.Ieee.Positive.{value-pos}
 use Rattle.floats.specs.Units.{unitsOf}
 use Rattle.floats.proofs.Within.{Signed, within-more}

@@ -10,7 +10,7 @@ use Rattle.lists.proofs.Bytes.{bytes-take, bytes-drop, bytes-put, bytes-zeros}
 use Rattle.lists.proofs.Cases.{pick-both}
 use Rattle.pose.specs.declared.Outcome.{Outcome}
 use Rattle.settings.specs.Settings.{defaultsOf}
-use Rattle.aligner.specs.Aligner.{freshOf, estimateOf, storeAfter}
+use Rattle.aligner.specs.Aligner.{freshOf, storeAfter}
 use Rattle.aligner.specs.declared.EccAligner.{EccAligner}
 use Rattle.records.specs.Reading.{nextOf}
 use Rattle.records.specs.declared.Record.{Record}

@@ -1,5 +1,5 @@
 -- No call is answered with number 7, whatever is handed in. Of frames and store it is asked that they are bytes, as all that lies in a slice of bytes is. Statements only.
-use Prim.Native.Nat.{ℕ, _%_}
+use Prim.Native.Nat.{_%_}
 use mathlib.Core.Path.{_≡_}
 use denote.Ref.{now}
 use Rattle.lists.specs.Premises.{AreBytes}

@@ -10,19 +10,17 @@ use lib.Dec.{T, lit<, lit≤}
 use lib.Pow.{pow-add}
 use lib.ListN.{getD}
 use lib.Ieee.{Float, nan, binary32, fits}
-use lib.Ieee.Fits.{add-fits}
-use lib.Ieee.Bits.{ofBits-fits}
 use Rattle.lists.specs.Marked.{pick, countMarked}
 use Rattle.lists.proofs.Cases.{pick-true}
 use Rattle.lists.proofs.Grow.{getD-tab}
-use Rattle.lists.proofs.Fold.{counted-le, counted-some, over-counted}
+use Rattle.lists.proofs.Fold.{counted-le, counted-some}
 use Rattle.floats.specs.Bound.{Within, Bounded}
 use Rattle.floats.specs.F32.{_⊖_, _⊗_, _⊘_, f32, 0f}
 use Rattle.floats.specs.Sums.{sumOver}
 use Rattle.floats.proofs.Within.{within-more, sub-within, div-within, mul-within, rep-pow, rep-up}
 use Rattle.floats.proofs.Exactly.{whole-is}
 use Rattle.floats.proofs.FromZero.{FromZero, square-from-zero, sum-from-zero}
-use Rattle.floats.proofs.Sums.{sum-within-count}
+use Rattle.floats.proofs.Sums.{sum-fits, sum-within-count}
 use Rattle.floats.proofs.Values.{value-at-least}
 use Rattle.root.specs.Root.{sqrtOf}
 use Rattle.root.proofs.Bounds.{sqrt-from-zero}
@@ -77,8 +75,8 @@ module _ (ms : List ℕ) (n : ℕ) (N : n ≤ 2 ^ 24) where
       (s .0, within-more (productOf ms n xs xs) (countMarked (on ms) n * 2 ^ (a + a)) 1 (2 ^ (24 + (a + a))) 1 (lit< tt) (s .1) (terms (a + a)))
 
   product-fits : (xs ys : List Float) → T (fits binary32 (productOf ms n xs ys))
-  unfolding productOf sumOver
-  product-fits xs ys = over-counted (λ x c. T (fits binary32 x)) (on ms) _ 0f (ofBits-fits binary32 0) n (λ t i c l C e w. add-fits binary32 t (getD xs i nan ⊗ getD ys i nan))
+  unfolding productOf
+  product-fits xs ys = sum-fits (on ms) (λ i. getD xs i nan ⊗ getD ys i nan) n
 
   -- ---- THE BOUNDS: the norm of numbers within 2 ^ k, and the correlation's sum
   norm-from-zero : (k : ℕ) → k ≤ 50 → (xs : List Float) → Bounded xs n k → let zm = centredOf ms n xs in FromZero (sqrtOf (productOf ms n zm zm)) (2 ^ (k + 14)) 1

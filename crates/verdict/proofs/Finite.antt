@@ -26,7 +26,7 @@ use Rattle.stats.specs.Stats.{meanOf, centredOf, productOf, statsOf, centeredSt
 use Rattle.stats.specs.declared.Stats.{Stats}
 use Rattle.stats.proofs.Bounds.{tmp-norm, img-norm, corr-within}
 use Rattle.verdict.specs.Verdict.{tiny, verdictOf}
-use Rattle.verdict.specs.Finite.{RhoFinite, RhoIsFinite, TooLarge}
+use Rattle.verdict.specs.Finite.{RhoIsFinite, TooLarge}
 use Rattle.verdict.specs.declared.Verdict.{Verdict}
 use Rattle.verdict.specs.declared.Verdict.the-variants.{Bad, Settled, Unsettled}
 
