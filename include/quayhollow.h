@@ -36,7 +36,7 @@
  *    5   under 16 pixels of the warped input lie inside it                        warps done, as for 6 to 10
  *    6   a frame is flat: its norm is at most 1e-6. Not every flat frame ends so: where its mean is rounded the norm is larger, and then a
  *        flat input ends with 8, a flat template with 5, 9, 10 or a pose
- *    7   rho is not finite
+ *    7   never given (proved: 'Number 7' in docs/PROMISES.md)
  *    8   the 3x3 system has no inverse
  *    9   no step: lambda or its divisor is not finite, or the divisor is not above 0
  *   10   the pose was lost: theta not in -2..2, or tx or ty not finite
@@ -116,7 +116,7 @@ static inline const char *quayhollow_words(uint8_t number)
     case QUAYHOLLOW_FLAT:
         return "a frame is flat";
     case QUAYHOLLOW_RHO_NOT_FINITE:
-        return "the correlation is not finite";
+        return "never given (proved)";
     case QUAYHOLLOW_NO_INVERSE:
         return "the input has too little on it to tell its motion";
     case QUAYHOLLOW_NO_STEP:

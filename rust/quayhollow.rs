@@ -103,7 +103,7 @@ impl Refusal {
             Refusal::ROOM_TOO_SHORT => "work or marks are too short",
             Refusal::FEW_PIXELS => "fewer than 16 pixels are left where the frames overlap",
             Refusal::FLAT => "a frame is flat",
-            Refusal::RHO_NOT_FINITE => "the correlation is not finite",
+            Refusal::RHO_NOT_FINITE => "never given (proved)",
             Refusal::NO_INVERSE => "the input has too little on it to tell its motion",
             Refusal::NO_STEP => "the frames do not agree, and no step is found",
             Refusal::POSE_LOST => "the pose went out of range",

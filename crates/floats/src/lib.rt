@@ -7,5 +7,7 @@
 //   Exactly   a value is written in one way; what the format holds rounds to itself; exact results
 //   Signs     bounds from tests and from below; exact differences
 //   Fraction  x less its whole part is exact
+//   Sums      sums over marked places, and their bound by how many are marked
+//   FromZero  values from +0 to a bound: squares, their sums; bounds from below
 //   Nearest   what rounding gives, and how far it moves a fraction
 //   Patterns  the values of bit patterns

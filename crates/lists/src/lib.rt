@@ -9,4 +9,5 @@
 //   Copy    a list copied to the front of another, or stored element by element
 //   Fill    a loop that fills one run or several runs of one list, a place or a row at a time
 //   Images  images, and a part that was lent and has come back
-//   Fold    folds over marked places
+//   Fold    folds over marked places, and what they hold by how many are marked
+//   Bytes   parts of bytes, and bytes put together, are bytes

@@ -1,3 +1,4 @@
 pub mod Passes
 pub mod Calls
 pub mod Log
+pub mod Needed
