@@ -4,20 +4,17 @@ use mathlib.Core.Bool.{true, false}
 use lib.Ieee.{Float, le, lt}
 use lib.Ieee.Scale.{finite}
 use Rattle.lists.proofs.Cases.{pick-true, pick-false}
-use Rattle.floats.specs.F32.{_⊖_, _⊗_, _⊘_}
+use Rattle.floats.specs.F32.{_⊖_}
 use Rattle.numbers.specs.Numbers.{absOf}
 use Rattle.stats.specs.declared.Stats.{Stats}
 use Rattle.verdict.specs.declared.Verdict.the-variants.{Bad, Settled, Unsettled}
-use Rattle.verdict.specs.Verdict.{tiny, stops, verdictOf}
+use Rattle.verdict.specs.Verdict.{tiny, stops, rhoOf, verdictOf}
 
 -- ---- the stop, after a last correlation that is finite
 pub by-difference : (rho last eps d : Float) → finite last ≡ true → d ≡ absOf (rho ⊖ last) → lt d eps ≡ stops rho last eps
 by-difference rho last eps d f e = rw (e, f)
 
 module _ (s : Stats) (last eps : Float) where
-  abbrev rhoOf : Float
-  rhoOf = s .corr ⊘ (s .«img_norm» ⊗ s .«tmp_norm»)
-
   pub flat-template : le (s .«tmp_norm») tiny ≡ true → Bad 6 ≡ verdictOf s last eps
   unfolding verdictOf
   flat-template e = sym (pick-true _ _ _ e)
@@ -28,15 +25,15 @@ module _ (s : Stats) (last eps : Float) where
     flat-image e = sym (pick-false _ _ _ not-flat ∙ pick-true _ _ _ e)
 
     module _ (neither : le (s .«img_norm») tiny ≡ false) where
-      pub rho-endless : finite rhoOf ≡ false → Bad 7 ≡ verdictOf s last eps
+      pub rho-endless : finite (rhoOf s) ≡ false → Bad 7 ≡ verdictOf s last eps
       unfolding verdictOf
       rho-endless e = sym (pick-false _ _ _ not-flat ∙ pick-false _ _ _ neither ∙ pick-false _ _ _ e)
 
-      module _ (ends : finite rhoOf ≡ true) where
-        pub rho-settled : stops rhoOf last eps ≡ true → Settled rhoOf ≡ verdictOf s last eps
+      module _ (ends : finite (rhoOf s) ≡ true) where
+        pub rho-settled : stops (rhoOf s) last eps ≡ true → Settled (rhoOf s) ≡ verdictOf s last eps
         unfolding verdictOf
         rho-settled e = sym (pick-false _ _ _ not-flat ∙ pick-false _ _ _ neither ∙ pick-true _ _ _ ends ∙ pick-true _ _ _ e)
 
-        pub rho-open : stops rhoOf last eps ≡ false → Unsettled rhoOf ≡ verdictOf s last eps
+        pub rho-open : stops (rhoOf s) last eps ≡ false → Unsettled (rhoOf s) ≡ verdictOf s last eps
         unfolding verdictOf
         rho-open e = sym (pick-false _ _ _ not-flat ∙ pick-false _ _ _ neither ∙ pick-true _ _ _ ends ∙ pick-false _ _ _ e)

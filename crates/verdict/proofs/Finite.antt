@@ -1,4 +1,4 @@
--- Rho is finite whenever it is worked out. The norms are above 1e-6, so their product is at least 2 ^ -40; the sum of products is below 2 ^ 87; so the quotient is below
+-- Rho is finite whenever it is worked out. The norms are above 1e-6, so their product is at least 2 ^ -40; the sum of products is at most 2 ^ 87; so the quotient is at most
 -- 2 ^ 127. Assumes nothing.
 use Prim.Native.Nat.{ℕ, zero, suc, _+_, _*_, _^_, _≤_}
 use mathlib.Core.Path.{_≡_, refl, sym, _∙_}
@@ -16,7 +16,7 @@ use Rattle.lists.specs.Lists.{grow, tab}
 use Rattle.lists.specs.Marked.{pick, overMarked}
 use Rattle.lists.proofs.Cases.{either, pick-both}
 use Rattle.floats.specs.Bound.{Within, AtLeast, Bounded}
-use Rattle.floats.specs.F32.{_⊗_, _⊘_}
+use Rattle.floats.specs.F32.{_⊗_}
 use Rattle.floats.proofs.Within.{within-finite, mul-within, div-within, rep-down, rep-up, rep-pow}
 use Rattle.floats.proofs.FromZero.{FromZero, above, mul-at-least}
 use Rattle.floats.specs.Sums.{sumOver}
@@ -25,7 +25,7 @@ use Rattle.root.specs.Root.{sqrtOf}
 use Rattle.stats.specs.Stats.{meanOf, centredOf, productOf, statsOf, centeredStats}
 use Rattle.stats.specs.declared.Stats.{Stats}
 use Rattle.stats.proofs.Bounds.{tmp-norm, img-norm, corr-within}
-use Rattle.verdict.specs.Verdict.{tiny, verdictOf}
+use Rattle.verdict.specs.Verdict.{tiny, rhoOf, verdictOf}
 use Rattle.verdict.specs.Finite.{RhoIsFinite, TooLarge}
 use Rattle.verdict.specs.declared.Verdict.{Verdict}
 use Rattle.verdict.specs.declared.Verdict.the-variants.{Bad, Settled, Unsettled}
@@ -54,17 +54,17 @@ module _ (a b : ℕ) (few : a + b ≤ 61) (s : Stats) (t : FromZero (s .«tmp_no
       mul-at-least (s .«img_norm») (s .«tmp_norm») 8796093 (2 ^ 43) 8796093 (2 ^ 43) 1 (2 ^ 40) (lit< tt) (lit< tt) (rep-down 1 40 (lit≤ tt) (lit≤ tt)) (lit≤ tt) (i .0) (t .0)
       (above (s .«img_norm») tiny 8796093 (2 ^ 43) (2 ^ (b + 14)) 1 (lit< tt) i tiny-is fi) (above (s .«tmp_norm») tiny 8796093 (2 ^ 43) (2 ^ (a + 14)) 1 (lit< tt) t tiny-is ft) norms-finite
 
-  rho-finite : le (s .«tmp_norm») tiny ≡ false → le (s .«img_norm») tiny ≡ false → finite (s .corr ⊘ norms) ≡ true
+  rho-finite : le (s .«tmp_norm») tiny ≡ false → le (s .«img_norm») tiny ≡ false → finite (rhoOf s) ≡ true
   rho-finite ft fi =
       let e = 24 + (a + 1 + (b + 1)) in
-      is-true (finite (s .corr ⊘ norms))
-      (within-finite (s .corr ⊘ norms) (2 ^ 24 * 2 ^ 103) 1
+      is-true (finite (rhoOf s))
+      (within-finite (rhoOf s) (2 ^ 24 * 2 ^ 103) 1
       (div-within binary32 (s .corr) norms (2 ^ e) 1 1 (2 ^ 40) (2 ^ 24 * 2 ^ 103) 1 (lit< tt) (lit< tt) (rep-up (2 ^ 24) 103 (lit≤ tt) (lit≤ tt)) (quotient e (omega arith)) c (norms-least ft fi)))
 
 -- ---- the verdict
 
 -- 6 and the stop are not 7
-never-bad-seven : (s : Stats) → (le (s .«tmp_norm») tiny ≡ false → le (s .«img_norm») tiny ≡ false → finite (s .corr ⊘ (s .«img_norm» ⊗ s .«tmp_norm»)) ≡ true) → (last eps : Float) → verdictOf s last eps ≡ Bad 7 → ⊥
+never-bad-seven : (s : Stats) → (le (s .«tmp_norm») tiny ≡ false → le (s .«img_norm») tiny ≡ false → finite (rhoOf s) ≡ true) → (last eps : Float) → verdictOf s last eps ≡ Bad 7 → ⊥
 unfolding verdictOf
 never-bad-seven s f last eps =
     let P : Verdict → Type 0 = λ v. v ≡ Bad 7 → ⊥ in

@@ -6,15 +6,14 @@ use mathlib.Core.List.{List, [], _∷_}
 use lib.Ieee.{Float, binary32, neg, le, ofBits}
 use lib.Ieee.Scale.{finite}
 use Rattle.floats.specs.Bound.{Bounded}
-use Rattle.floats.specs.F32.{_⊗_, _⊘_}
 use Rattle.stats.specs.Stats.{centeredStats}
 use Rattle.stats.specs.declared.Stats.{Stats}
-use Rattle.verdict.specs.Verdict.{tiny, verdictOf}
+use Rattle.verdict.specs.Verdict.{tiny, rhoOf, verdictOf}
 use Rattle.verdict.specs.declared.Verdict.the-variants.{Bad}
 
 -- rho of these statistics is finite whenever it is worked out, that is where no norm is at most 1e-6; so no verdict on them is 7
 pub record RhoFinite (s : Stats) : Type 0 where
-  pub rho : le (s .«tmp_norm») tiny ≡ false → le (s .«img_norm») tiny ≡ false → finite (s .corr ⊘ (s .«img_norm» ⊗ s .«tmp_norm»)) ≡ true
+  pub rho : le (s .«tmp_norm») tiny ≡ false → le (s .«img_norm») tiny ≡ false → finite (rhoOf s) ≡ true
   pub never-seven : (last eps : Float) → verdictOf s last eps ≡ Bad 7 → ⊥
 
 -- THE STATEMENT: over any marks of up to 2^24 pixels, any template within ±2^a and any warped image within ±2^b, where a and b are at most 50, and 61 together. Of a prepared

@@ -18,10 +18,14 @@ tiny = ofBits binary32 0x3586_37bd
 abbrev pub stops : Float → Float → Float → Bool
 stops rho last eps = finite last && lt (absOf (rho ⊖ last)) eps
 
+-- rho = corr / (img_norm * tmp_norm)
+abbrev pub rhoOf : Stats → Float
+rhoOf s = s .corr ⊘ (s .«img_norm» ⊗ s .«tmp_norm»)
+
 -- tmp_norm <= 1e-6 || img_norm <= 1e-6: 6; rho not finite: 7; else whether the passes stop
 unfoldable pub verdictOf : Stats → Float → Float → Verdict
 verdictOf s last eps =
-    let rho = s .corr ⊘ (s .«img_norm» ⊗ s .«tmp_norm») in
+    let rho = rhoOf s in
     pick (le (s .«tmp_norm») tiny) (Bad 6)
     (pick (le (s .«img_norm») tiny) (Bad 6)
     (pick (finite rho) (pick (stops rho last eps) (Settled rho) (Unsettled rho)) (Bad 7)))
