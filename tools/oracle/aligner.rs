@@ -1,5 +1,5 @@
-//! A whole call by document 01, over the oracle (ecc.rs): what the alignment and the aligner answer, what they leave in the lent memory, the
-//! lengths that they need, and the pins of an answer. A model for tests. It shares nothing with the Rattle code.
+//! A whole call by document 01, over the oracle (ecc.rs): what the alignment and the aligner answer, what they leave in the lent memory, and
+//! the lengths that they need. A model for tests. It shares nothing with the Rattle code.
 
 use super::ecc::{self, EccConfig, Outcome};
 
@@ -78,14 +78,4 @@ pub fn estimate(frame: &[u8], w: usize, h: usize, cfg: EccConfig, m: &mut Memory
         m.state[..3].copy_from_slice(&[1, w as u64, h as u64]);
     }
     o
-}
-
-/// dx, dy, turn: an f32 times 256 or 8,192 is exact in f64; nearest, half away from zero, held to the range of i16. Zeros for a refusal and
-/// for a pose that is not finite
-pub fn pins(o: &Outcome) -> [i16; 3] {
-    if o.number != 0 || ![o.theta, o.tx, o.ty].iter().all(|x| x.is_finite()) {
-        return [0; 3];
-    }
-    let held = |x: f32, times: f64| (x as f64 * times).round().clamp(-32768.0, 32767.0) as i16;
-    [held(o.tx, 256.0), held(o.ty, 256.0), held(o.theta, 8192.0)]
 }

@@ -1,8 +1,9 @@
-//! What pinlog prints, by document 01's section 'For the pin driver': a model over the oracle (ecc.rs), for tests. It shares nothing with the
+//! What pinlog prints, by document 01's section 'For the pin driver' and document 02's request 2: a model over the oracle (ecc.rs), for tests. It shares nothing with the
 //! Rattle code.
 
 use super::aligner::{self, Memory};
 use super::ecc::{self, EccConfig};
+use super::pins::pins;
 
 /// the store, work and marks of the program, for a fresh aligner
 fn memory() -> Memory {
@@ -37,13 +38,14 @@ pub fn log(mut s: &[u8]) -> String {
             (cfg, m) = (settings(body), memory());
         }
         if kind == 2 {
+            let (w, h) = (number(&body[..2]), number(&body[2..4]));
             let o = if body.len() > 1028 {
                 ecc::refusal(13, 0)
             } else {
-                aligner::estimate(&body[4..], number(&body[..2]), number(&body[2..4]), cfg, &mut m)
+                aligner::estimate(&body[4..], w, h, cfg, &mut m)
             };
             frames += 1;
-            let [dx, dy, turn] = aligner::pins(&o);
+            let [dx, dy, turn] = pins(&o, w, h);
             text += &format!("{} {} {} {} {} {}\n", frames, o.number, o.passes, dx, dy, turn);
         }
     }

@@ -12,6 +12,9 @@ mod lines;
 #[path = "../oracle/pinlog.rs"]
 mod pinlog;
 #[allow(dead_code)]
+#[path = "../oracle/pins.rs"]
+mod pins;
+#[allow(dead_code)]
 #[path = "../oracle/rules.rs"]
 mod rules;
 use lines::Stream;

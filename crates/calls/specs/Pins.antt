@@ -1,5 +1,5 @@
 -- When a vector of the driver numbers agrees with the definitions, and the table of both kinds. Definitions only.
--- The words: the kind; the answer's number, theta, tx, ty; dx, dy and turn, each by 1 if it is below 0, else 0, and by its distance to 0.
+-- The words: the kind; the answer's number, theta, tx, ty; the sides w, h; dx, dy and turn, each by 1 if it is below 0, else 0, and by its distance to 0.
 use Prim.Native.Nat.{ℕ, _+_, _%_}
 use mathlib.Core.Bool.{Bool, _&&_}
 use mathlib.Core.List.{List, [], _∷_}
@@ -26,8 +26,8 @@ answerAt words =
 
 unfoldable pub pinsAgree : List ℕ → Bool
 pinsAgree words =
-    let p = pinsOf (answerAt words) in
-    pinAgrees (p .dx) (storedAt words 5) (storedAt words 6) && pinAgrees (p .dy) (storedAt words 7) (storedAt words 8) && pinAgrees (p .turn) (storedAt words 9) (storedAt words 10)
+    let p = pinsOf (answerAt words) (storedAt words 5) (storedAt words 6) in
+    pinAgrees (p .dx) (storedAt words 7) (storedAt words 8) && pinAgrees (p .dy) (storedAt words 9) (storedAt words 10) && pinAgrees (p .turn) (storedAt words 11) (storedAt words 12)
 
 abbrev pub callTable : List ℕ → List (ℕ × Bool)
 callTable words = (26, callAgrees words) ∷ (27, pinsAgree words) ∷ []

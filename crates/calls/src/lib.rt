@@ -294,18 +294,18 @@ fn answer_at(words: &[u64]) -> Answer
     Answer::Refused((number % 256) as u8)
 }
 
-// The answer; dx, dy and turn.
+// The answer, the sides; dx, dy and turn.
 fn pins_agree(words: &[u64]) -> bool
     ensures { λ r. ⌜ r ≡ pinsAgree (now (words .entry)) ⌝ }
 {
-    let pins = driver::pins_of(answer_at(words));
-    if !pin_agrees(pins.dx, word(words, 5), word(words, 6)) {
+    let pins = driver::pins_of(answer_at(words), word(words, 5) as usize, word(words, 6) as usize);
+    if !pin_agrees(pins.dx, word(words, 7), word(words, 8)) {
         return false;
     }
-    if !pin_agrees(pins.dy, word(words, 7), word(words, 8)) {
+    if !pin_agrees(pins.dy, word(words, 9), word(words, 10)) {
         return false;
     }
-    pin_agrees(pins.turn, word(words, 9), word(words, 10))
+    pin_agrees(pins.turn, word(words, 11), word(words, 12))
 }
 
 pub fn agrees(kind: u64, words: &[u64]) -> bool

@@ -47,9 +47,9 @@ filter k = record { eps = defaultsOf .eps; «max_iter» = defaultsOf .«max_iter
 abbrev pub passes : ℕ → EccConfig
 passes k = record { eps = defaultsOf .eps; «max_iter» = k; «gauss_filt_size» = defaultsOf .«gauss_filt_size»; «resize_long_edge» = defaultsOf .«resize_long_edge» }
 
--- dx of a pose with this bit pattern for tx
+-- dx of a pose with this bit pattern for tx, for a frame of 1x1: its middle is its one pixel
 abbrev pub dxAt : ℕ → ℤ
-dxAt b = pinsOf (Posed 0f (ofBits binary32 b) 0f 0f) .dx
+dxAt b = pinsOf (Posed 0f (ofBits binary32 b) 0f 0f) 1 1 .dx
 
 -- a row 0 10 20 30 40
 abbrev pub steps : List ℕ
@@ -81,7 +81,7 @@ pub record Starred : Type 0 where
   pub cosine-of-zero : at cosOf 0 ≡ 0x3f80_0000
   pub sine-of-minus-zero : at sinOf 0x8000_0000 ≡ 0x8000_0000
   pub exponential-of-zero : at expNegOf 0 ≡ 0x3f80_0000
-  -- 8: tx 1/512 gives 1 for the pins, tx -1/512 gives -1
+  -- 8, which by document 02 reads for a 1x1 frame: tx 1/512 gives 1 for the pins, tx -1/512 gives -1
   pub shift-up : dxAt 0x3b00_0000 ≡ pos 1
   pub shift-down : dxAt 0xbb00_0000 ≡ negℤ (pos 1)
   -- 9: 5x5, columns 0 10 20 30 40, both frames, default settings: 8 after 1 pass

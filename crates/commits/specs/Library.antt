@@ -60,4 +60,4 @@ abbrev pub MatrixFloatsCommits : Type 0
 MatrixFloatsCommits = Commits matrix-kinds.ps matrix-kinds.r matrix.Post (List Float) (λ κs r s. now (s .1 .1 .1 .1 .0))
 
 abbrev pub PinsNumbersCommits : Type 0
-PinsNumbersCommits = Commits pins-kinds.ps pins-kinds.r pins.Post (List ℤ) (λ κs r s. now (s .1 .1 .1 .1 .0))
+PinsNumbersCommits = Commits pins-kinds.ps pins-kinds.r pins.Post (List ℤ) (λ κs r s. now (s .1 .1 .1 .1 .1 .1 .0))

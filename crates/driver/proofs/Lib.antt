@@ -1,2 +1,4 @@
 pub mod Whole
 pub mod Scaled
+pub mod Entries
+pub mod Sides

@@ -17,7 +17,9 @@ use Rattle.floats.specs.Bound.{AtLeast}
 use Rattle.floats.proofs.Within.{Signed, round-signed, round-neg, rep-down}
 use Rattle.floats.proofs.Exactly.{mul-pow-exact}
 use Rattle.floats.proofs.Signs.{round-at-least}
-use Rattle.driver.specs.Pins.{cappedOf, nearestCapped, pinOf}
+use Rattle.middle.specs.Held.{cappedOf, nearestCapped}
+use Rattle.middle.proofs.Nearest.{nearest-far}
+use Rattle.driver.specs.Pins.{pinOf}
 
 -- ---- fractions
 
@@ -29,15 +31,6 @@ nearest-same s a c n d C D h = ap (cappedOf s) (div-same (2 * a + c) (2 * c) (2 
     doubled : a * d ≡ n * c → (2 * a + c) * (2 * d) ≡ (2 * n + d) * (2 * c)
     doubled h = omega (arith, add-mul (2 * a) c (2 * d), add-mul (2 * n) d (2 * c), mul-mul-mul-comm 2 a 2 d, mul-mul-mul-comm 2 n 2 c, mul-comm c (2 * d), mul-comm d (2 * c))
 
--- from 32768 on
-nearest-far : (s : Bool) (n d : ℕ) → 0 < d → 32768 * d ≤ n → nearestCapped s n d ≡ nearestCapped s 32768 1
-unfolding nearestCapped
-nearest-far s n d D h = hold s ((2 * n + d) / (2 * d)) (le-div-iff-mul-le (omega arith) .1 (omega arith))
-  where
-    hold : (s : Bool) (q : ℕ) → 32768 ≤ q → cappedOf s q ≡ cappedOf s 32768
-    hold true q h = ap (λ (n : ℕ). negℤ (pos n)) (min-eq-right h)
-    hold false q h = ap pos (min-eq-right {n = 32767} {m = q} (omega arith))
-
 -- ---- values
 
 value-pin : (y : Float) (s : Bool) (n d : ℕ) → 0 < d → HasValue y s n d → pinOf 1 y ≡ nearestCapped s n d
@@ -46,7 +39,7 @@ value-pin nan s n d D h = absurd h
 value-pin (inf t) s n d D h = absurd h
 value-pin (fin t m e) s n d D h = rw (h .0, one-mul (m * up e)) (nearest-same s (m * up e) (down e) n d (down-pos e) D (h .1))
 
-far-pin : (y : Float) (s : Bool) → Signed s y → (T (finite y) → AtLeast y 32768 1) → pinOf 1 y ≡ nearestCapped s 32768 1
+far-pin : (y : Float) (s : Bool) → Signed s y → (T (finite y) → AtLeast y 32768 1) → pinOf 1 y ≡ cappedOf s 32768
 unfolding pinOf
 far-pin nan s g h = absurd g
 far-pin (inf t) s g h = rw g

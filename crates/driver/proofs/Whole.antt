@@ -17,7 +17,8 @@ use borrow.Author.Tests.{ltb-true, ltb-false}
 use Rattle.floats.proofs.Tests.{few-digits}
 use Rattle.numbers.specs.Numbers.{nearestOf, roundOf}
 use Rattle.numbers.proofs.Whole.{round-kept}
-use Rattle.driver.specs.Pins.{cappedOf, nearestCapped, pinOf}
+use Rattle.middle.specs.Held.{cappedOf, nearestCapped}
+use Rattle.driver.specs.Pins.{pinOf}
 
 -- v is the whole number q with the sign s, or an infinity of that sign, with q past the range
 abbrev pub Whole : Float → Bool → ℕ → Type 0

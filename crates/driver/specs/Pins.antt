@@ -1,24 +1,18 @@
--- The driver numbers of document 01: dx = tx * 256, dy = ty * 256, turn = theta * 8192, exact, to the nearest whole number, half away from
--- zero, held to -32768..32767. Definitions only. All is in whole numbers: a finite value is m * up e / down e with a sign, and nothing is rounded
--- but the last quotient.
+-- The driver numbers: dx and dy by document 02, request 2, turn by document 01. Exact, to the nearest whole number, half away from zero, held to
+-- -32768..32767. Definitions only. All is in whole numbers: a finite value is m * up e / down e with a sign, and nothing is rounded but the last quotient.
 use mathlib.Core.Bool.{Bool, true, false, _&&_}
-use Prim.Native.Nat.{ℕ, _+_, _*_, _/_, min}
-use lib.IntN.{ℤ, pos, negℤ}
+use Prim.Native.Nat.{ℕ, _-_, _*_}
+use lib.Dec.{ltb, leb}
+use lib.IntN.{ℤ, pos}
 use lib.Ieee.{Float, nan, inf, fin, up, down}
 use lib.Ieee.Scale.{finite}
 use Rattle.lists.specs.Marked.{pick}
-use Rattle.pose.specs.Pose.{toldOf}
+use Rattle.pose.specs.Pose.{posedMatrix}
 use Rattle.pose.specs.declared.Answer.{Answer}
+use Rattle.pose.specs.declared.Answer.the-variants.{Posed, Refused}
+use Rattle.middle.specs.Held.{nearestCapped}
+use Rattle.middle.specs.Motion.{motionOf}
 use Rattle.driver.specs.declared.Pins.{Pins}
-
--- a size with its sign, held to -32768..32767
-abbrev pub cappedOf : Bool → ℕ → ℤ
-cappedOf true n = negℤ (pos (min n 32768))
-cappedOf false n = pos (min n 32767)
-
--- n / d with its sign, to the nearest whole number, half away from zero, held
-unfoldable pub nearestCapped : Bool → ℕ → ℕ → ℤ
-nearestCapped s n d = cappedOf s ((2 * n + d) / (2 * d))
 
 -- k times a value, to the nearest whole number, half away from zero, held; an infinity is held too
 unfoldable pub pinOf : ℕ → Float → ℤ
@@ -31,12 +25,24 @@ pinOf k (fin s m e) = nearestCapped s (k * (m * up e)) (down e)
 abbrev pub stillOf : Pins
 stillOf = record { dx = pos 0; dy = pos 0; turn = pos 0 }
 
--- of a pose: 0, 0, 0 where theta, tx or ty is not finite
-unfoldable pub posedOf : Float → Float → Float → Pins
-unfolding pinOf
-posedOf theta tx ty = pick (finite theta && finite tx && finite ty) (record { dx = pinOf 256 tx; dy = pinOf 256 ty; turn = pinOf 8192 theta }) stillOf
+-- a side of a frame: 1 to 4,096
+abbrev pub isSide : ℕ → Bool
+isSide n = ltb 0 n && leb n 4096
 
--- of an answer, by its values: those of a refusal are zeros, so 0, 0, 0
-unfoldable pub pinsOf : Answer → Pins
+-- of a pose that is finite: how far its matrix moves the point (a/2, b/2), and its turn
+unfoldable pub finiteOf : Float → Float → Float → ℕ → ℕ → Pins
+unfolding pinOf posedMatrix motionOf
+finiteOf theta tx ty a b =
+    let m = posedMatrix theta tx ty in
+    record { dx = motionOf (m .m00) a (m .m01) b (m .m02); dy = motionOf (m .m11) b (m .m10) a (m .m12); turn = pinOf 8192 theta }
+
+-- of a pose: 0, 0, 0 where theta, tx or ty is not finite
+unfoldable pub posedOf : Float → Float → Float → ℕ → ℕ → Pins
+unfolding finiteOf
+posedOf theta tx ty a b = pick (finite theta && finite tx && finite ty) (finiteOf theta tx ty a b) stillOf
+
+-- of an answer to a frame of w by h pixels, whose middle is ((w - 1)/2, (h - 1)/2): 0, 0, 0 for a refusal and for sides that no frame has
+unfoldable pub pinsOf : Answer → ℕ → ℕ → Pins
 unfolding posedOf
-pinsOf a = let t = toldOf a in posedOf (t .theta) (t .tx) (t .ty)
+pinsOf (Refused k) w h = stillOf
+pinsOf (Posed theta tx ty rho) w h = pick (isSide w && isSide h) (posedOf theta tx ty (w - 1) (h - 1)) stillOf

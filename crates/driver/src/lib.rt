@@ -1,11 +1,13 @@
-// The numbers for the pins: the shift of an answer in 1/256 pixel and its turn in 1/8192 radian, as whole numbers.
+// The numbers for the pins: how far an answer moves the middle of the frame, in 1/256 pixel, and its turn in 1/8192 radian, as whole numbers.
 //
-// Any answer may be handed in. A refusal gives 0, 0, 0, and so does a pose with theta, tx or ty not finite.
+// Any answer and any sides may be handed in. A refusal gives 0, 0, 0, and so does a pose with theta, tx or ty not finite, and a side of 0 or above 4,096.
 ghost use mathlib.Core.Path.{_≡_};
 ghost use mathlib.Core.Bool.{not};
 ghost use lib.Dec.{T};
 ghost use lib.Ieee.{isNan};
-ghost use Rattle.driver.specs.Pins.{pinOf, stillOf, posedOf, pinsOf};
+ghost use lib.Ieee.Scale.{finite};
+ghost use Prim.Native.Nat.{_≤_};
+ghost use Rattle.driver.specs.Pins.{pinOf, stillOf, isSide, finiteOf, posedOf, pinsOf};
 use pose::Answer;
 
 pub struct Pins {
@@ -39,9 +41,24 @@ fn still() -> Pins
     }
 }
 
-// The numbers of a pose. A product with 256 or 8192 is exact, or an infinity, which is held.
-fn posed_pins(theta: f32, tx: f32, ty: f32) -> Pins
-    ensures { λ r. ⌜ r ≡ posedOf theta tx ty ⌝ }
+// The numbers of a pose that is finite, with the point (a/2, b/2) in the middle of the frame. A product with 8192 is exact, or an infinity, which is held.
+fn finite_pins(theta: f32, tx: f32, ty: f32, a: u64, b: u64) -> Pins
+    requires { ⌜ T (finite theta) × T (finite tx) × T (finite ty) ⌝ }
+    requires { ⌜ (a ≤ 4095) × (b ≤ 4095) ⌝ }
+    ensures { λ r. ⌜ r ≡ finiteOf theta tx ty a b ⌝ }
+{
+    let m = pose::posed_matrix(theta, tx, ty);
+    Pins {
+        dx: middle::motion(m.m00, a, m.m01, b, m.m02),
+        dy: middle::motion(m.m11, b, m.m10, a, m.m12),
+        turn: capped(theta * 8192.0),
+    }
+}
+
+// The numbers of a pose.
+fn posed_pins(theta: f32, tx: f32, ty: f32, a: u64, b: u64) -> Pins
+    requires { ⌜ (a ≤ 4095) × (b ≤ 4095) ⌝ }
+    ensures { λ r. ⌜ r ≡ posedOf theta tx ty a b ⌝ }
 {
     if !numbers::is_finite(theta) {
         return still();
@@ -52,17 +69,28 @@ fn posed_pins(theta: f32, tx: f32, ty: f32) -> Pins
     if !numbers::is_finite(ty) {
         return still();
     }
-    Pins {
-        dx: capped(tx * 256.0),
-        dy: capped(ty * 256.0),
-        turn: capped(theta * 8192.0),
-    }
+    finite_pins(theta, tx, ty, a, b)
 }
 
-// The numbers of any answer.
-pub fn pins_of(answer: Answer) -> Pins
-    ensures { λ r. ⌜ r ≡ pinsOf answer ⌝ }
+fn is_side(n: usize) -> bool
+    ensures { λ r. ⌜ r ≡ isSide n ⌝ }
 {
+    if n == 0 {
+        return false;
+    }
+    n <= 4096
+}
+
+// The numbers of any answer to a frame of w by h pixels.
+pub fn pins_of(answer: Answer, w: usize, h: usize) -> Pins
+    ensures { λ r. ⌜ r ≡ pinsOf answer w h ⌝ }
+{
+    if !is_side(w) {
+        return still();
+    }
+    if !is_side(h) {
+        return still();
+    }
     match answer {
         Answer::Refused(_) => still(),
         Answer::Posed {
@@ -70,6 +98,6 @@ pub fn pins_of(answer: Answer) -> Pins
             tx,
             ty,
             rho: _,
-        } => posed_pins(theta, tx, ty),
+        } => posed_pins(theta, tx, ty, (w - 1) as u64, (h - 1) as u64),
     }
 }

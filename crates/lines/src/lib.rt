@@ -14,13 +14,13 @@ pub struct Line {
     pub turn: i16,
 }
 
-// The line of a frame that comes after so many others.
-pub fn line_of(frames: u64, outcome: Outcome) -> Line
+// The line of a frame of w by h pixels that comes after so many others.
+pub fn line_of(frames: u64, outcome: Outcome, w: usize, h: usize) -> Line
     requires { ⌜ frames < 18446744073709551615 ⌝ }
-    ensures { λ r. ⌜ r ≡ lineOf frames outcome ⌝ }
+    ensures { λ r. ⌜ r ≡ lineOf frames outcome w h ⌝ }
 {
     let answer = outcome.answer;
-    let pins = driver::pins_of(answer);
+    let pins = driver::pins_of(answer, w, h);
     Line {
         position: frames + 1,
         number: pose::number_of(answer),

@@ -35,7 +35,7 @@ module _ (k m : ℕ) (g h : Reader) (n : ℕ) (same : Agree n g h) (a : EccAlign
   from-same s (Settings cfg) l z = same (freshOf cfg) store f (drop 20 s) (omega (arith, length-drop 20 s))
   from-same s (Frame w i j) l z =
       let reply = estimateOf a (pixelsOf s j) w i store k m in
-      ap (line (lineOf f (reply .outcome)))
+      ap (line (lineOf f (reply .outcome) w i))
       (same (reply .aligner) (storeAfter (pixelsOf s j) w i store) (f + 1) (drop (10 + j) s) (omega (arith, length-drop (10 + j) s)))
   from-same s (Large j) l z = past-same true _ (drop 6 s) (omega (arith, length-drop 6 s))
   from-same s (Other j) l z = past-same false _ (drop 6 s) (omega (arith, length-drop 6 s))

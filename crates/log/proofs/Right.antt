@@ -45,7 +45,7 @@ module _ (rec : ℕ → List ℕ → Log) (large : Bool) (f : ℕ) where
 
   -- they are all at hand
   past-over : (n : ℕ) (s t : List ℕ) → n ≤ length s
-      → past rec large n f (s ++ t) ≡ pick large (line (lineOf f tooLarge) (rec (f + 1) (drop n s ++ t))) (rec f (drop n s ++ t))
+      → past rec large n f (s ++ t) ≡ pick large (line (lineOf f tooLarge 0 0) (rec (f + 1) (drop n s ++ t))) (rec f (drop n s ++ t))
   unfolding past pick
   past-over n s t h = rw (le-ltb (length (s ++ t)) n (omega (arith, length-append s t)), drop-append-le n s t h)
 

@@ -85,7 +85,7 @@ module _ (k m : ℕ) (rec : Reader) (blind : Blind rec) (a : EccAligner) (x y : 
       let p = pixelsOf s n in
       let e = estimate-alike k m a p w h x y same in
       let b = blind (estimateOf a p w h x k m .aligner) (storeAfter p w h x) (storeAfter p w h y) (store-alike k m a p w h x y same) (f + 1) (drop (10 + n) s) in
-      ap (line (lineOf f (estimateOf a p w h x k m .outcome))) b ∙ rw e
+      ap (line (lineOf f (estimateOf a p w h x k m .outcome) w h)) b ∙ rw e
   from-alike s (Large n) = past-alike true _ (drop 6 s)
   from-alike s (Other n) = past-alike false _ (drop 6 s)
   from-alike s Broken = refl

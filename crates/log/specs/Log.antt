@@ -28,10 +28,10 @@ pub data Log : Type 0 where
 abbrev pub Reader : Type 0
 Reader = EccAligner → List ℕ → ℕ → List ℕ → Log
 
--- n bytes are read over, and then a frame that was too large is answered 13; too few bytes are a broken record
+-- n bytes are read over, and then a frame that was too large is answered 13, its sides not looked at; too few bytes are a broken record
 unfoldable pub past : (ℕ → List ℕ → Log) → Bool → ℕ → ℕ → List ℕ → Log
 past rec large n f s =
-    pick (ltb (length s) n) (last (Cut f)) (pick large (line (lineOf f tooLarge) (rec (f + 1) (drop n s))) (rec f (drop n s)))
+    pick (ltb (length s) n) (last (Cut f)) (pick large (line (lineOf f tooLarge 0 0) (rec (f + 1) (drop n s))) (rec f (drop n s)))
 
 -- a record at the start of s, and then what rec says of the bytes after it
 unfoldable pub from : ℕ → ℕ → Reader → EccAligner → List ℕ → ℕ → List ℕ → Record → Log
@@ -39,7 +39,7 @@ from work marks rec a store f s More = last (Cut f)
 from work marks rec a store f s (Settings cfg) = rec (freshOf cfg) store f (drop 20 s)
 from work marks rec a store f s (Frame w h n) =
     let reply = estimateOf a (pixelsOf s n) w h store work marks in
-    line (lineOf f (reply .outcome)) (rec (reply .aligner) (storeAfter (pixelsOf s n) w h store) (f + 1) (drop (10 + n) s))
+    line (lineOf f (reply .outcome) w h) (rec (reply .aligner) (storeAfter (pixelsOf s n) w h store) (f + 1) (drop (10 + n) s))
 from work marks rec a store f s (Large n) = past (rec a store) true n f (drop 6 s)
 from work marks rec a store f s (Other n) = past (rec a store) false n f (drop 6 s)
 from work marks rec a store f s Broken = last (Cut f)

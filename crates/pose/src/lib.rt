@@ -126,7 +126,8 @@ pub fn is_pose(theta: f32, tx: f32, ty: f32) -> bool
     false
 }
 
-fn posed_matrix(theta: f32, tx: f32, ty: f32) -> Matrix3
+// The matrix of a pose: the identity for a number that is not finite and for a theta outside -2..2.
+pub fn posed_matrix(theta: f32, tx: f32, ty: f32) -> Matrix3
     ensures { λ r. ⌜ r ≡ posedMatrix theta tx ty ⌝ }
 {
     if is_pose(theta, tx, ty) {

@@ -29,9 +29,9 @@ module _ (k : ℕ) (free : T (not (given k))) where
   abbrev OtherLog : Log → Type 0
   OtherLog = EveryLine (λ l. l .number ≡ k → ⊥)
 
-  line-other : (f : ℕ) (o : Outcome) → NotNumber k o → lineOf f o .number ≡ k → ⊥
+  line-other : (f : ℕ) (o : Outcome) (w h : ℕ) → NotNumber k o → lineOf f o w h .number ≡ k → ⊥
   unfolding lineOf
-  line-other f o n = n
+  line-other f o w h n = n
 
   -- what a reader says of bytes, with a store of bytes
   abbrev Reads : Reader → Type 0
@@ -43,7 +43,7 @@ module _ (k : ℕ) (free : T (not (given k))) where
     past-other large n s b =
         let rest = bytes-drop n s b in
         pick-both OtherLog _ _ _ tt
-        (pick-both OtherLog _ _ _ (line-other f tooLarge (refused-other k free 13 (other k free 13 tt)), reads a store (f + 1) (drop n s) bs rest) (reads a store f (drop n s) bs rest))
+        (pick-both OtherLog _ _ _ (line-other f tooLarge 0 0 (refused-other k free 13 (other k free 13 tt)), reads a store (f + 1) (drop n s) bs rest) (reads a store f (drop n s) bs rest))
 
     from-other : (s : List ℕ) → AreBytes s → (r : Record) → OtherLog (from work marks rec a store f s r)
     unfolding from
@@ -51,7 +51,7 @@ module _ (k : ℕ) (free : T (not (given k))) where
     from-other s b (Settings cfg) = reads (freshOf cfg) store f (drop 20 s) bs (bytes-drop 20 s b)
     from-other s b (Frame w h n) =
         let p = bytes-take n (drop 10 s) (bytes-drop 10 s b) in (
-          line-other f _ (estimated-other k free a (pixelsOf s n) w h store work marks p bs),
+          line-other f _ w h (estimated-other k free a (pixelsOf s n) w h store work marks p bs),
           reads _ (storeAfter (pixelsOf s n) w h store) (f + 1) (drop (10 + n) s) (store-bytes (pixelsOf s n) w h store p bs) (bytes-drop (10 + n) s b),
         )
     from-other s b (Large n) = past-other true n (drop 6 s) (bytes-drop 6 s b)

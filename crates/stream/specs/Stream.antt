@@ -44,9 +44,9 @@ firstState = stateOf 0 false 0 (freshOf defaultsOf)
 abbrev pub did : ℕ → Event → State → Step
 did n e st = record { used = n; event = e; state = st }
 
--- a body that was read over is a frame's, and it is over: now its line is printed
+-- a body that was read over is a frame's, and it is over: now its line is printed. Its sides were not looked at: a refusal's numbers are 0 whatever they are
 unfoldable pub passedOf : State → Step
-passedOf st = did (st .rest) (event.Print (lineOf (st .frames) tooLarge)) (stateOf 0 false (st .frames + 1) (st .aligner))
+passedOf st = did (st .rest) (event.Print (lineOf (st .frames) tooLarge 0 0)) (stateOf 0 false (st .frames + 1) (st .aligner))
 
 -- a body is read over, with n bytes at hand
 unfoldable pub overOf : State → ℕ → Step
@@ -63,7 +63,7 @@ actOf st s store work marks More = did 0 event.More st
 actOf st s store work marks (Settings cfg) = did 20 event.Quiet (stateOf (st .rest) (st .large) (st .frames) (freshOf cfg))
 actOf st s store work marks (Frame w h n) =
     let reply = estimateOf (st .aligner) (pixelsOf s n) w h store work marks in
-    did (10 + n) (event.Print (lineOf (st .frames) (reply .outcome))) (stateOf (st .rest) (st .large) (st .frames + 1) (reply .aligner))
+    did (10 + n) (event.Print (lineOf (st .frames) (reply .outcome) w h)) (stateOf (st .rest) (st .large) (st .frames + 1) (reply .aligner))
 actOf st s store work marks (Large n) = did 6 event.Quiet (stateOf n true (st .frames) (st .aligner))
 actOf st s store work marks (Other n) = did 6 event.Quiet (stateOf n false (st .frames) (st .aligner))
 actOf st s store work marks Broken = did 0 event.Broken st

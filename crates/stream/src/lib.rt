@@ -64,7 +64,7 @@ pub fn fresh() -> State
     }
 }
 
-// The body of a frame that is too large is over: the frame is answered 13.
+// The body of a frame that is too large is over: the frame is answered 13. Its sides are not known, and a refusal does not need them.
 fn passed(state: State) -> Step
     requires { ⌜ state .frames < 18446744073709551615 ⌝ }
     ensures { λ r. ⌜ r ≡ passedOf state ⌝ }
@@ -75,7 +75,7 @@ fn passed(state: State) -> Step
     };
     Step {
         used: state.rest,
-        event: Event::Print(lines::line_of(state.frames, outcome)),
+        event: Event::Print(lines::line_of(state.frames, outcome, 0, 0)),
         state: State {
             rest: 0,
             large: false,
@@ -144,7 +144,7 @@ fn answer(
     let aligner = reply.aligner;
     Step {
         used: end,
-        event: Event::Print(lines::line_of(state.frames, reply.outcome)),
+        event: Event::Print(lines::line_of(state.frames, reply.outcome, w, h)),
         state: State {
             frames: state.frames + 1,
             aligner,

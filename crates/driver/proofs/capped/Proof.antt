@@ -8,7 +8,7 @@ use lib.Ieee.{ofBits, neg}
 use mir.Syntax.{w16, w64}
 use mir.Val.{SFits}
 use mir.ValLaws.{toZ-ofZ}
-use Rattle.driver.specs.Pins.{cappedOf}
+use Rattle.middle.specs.Held.{cappedOf}
 use Rattle.driver.proofs.Whole.{Rounded, rounded, above, below, Inside, inside, capped-mag}
 use Rattle.driver.proofs.capped.Statement.{statement}
 use Rattle.driver.proofs.capped.Tie as tie

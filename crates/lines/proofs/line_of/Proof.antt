@@ -9,8 +9,8 @@ use Rattle.lines.proofs.line_of.Tie as tie
 pins-of-requires : tie.Need-pins-of-requires
 pins-of-requires c κs = search needs
 
-add-t5 : tie.Need-add-t5
-add-t5 c = search needs
+add-t7 : tie.Need-add-t7
+add-t7 c = search needs
 
 number-of-requires : tie.Need-number-of-requires
 number-of-requires c κs = search needs
@@ -29,4 +29,4 @@ returns c =
     )
 
 pub line-of-spec : {M : Type 1} → statement M
-line-of-spec = tie.close (tie.spec pins-of-requires add-t5 number-of-requires returns)
+line-of-spec = tie.close (tie.spec pins-of-requires add-t7 number-of-requires returns)

@@ -2,6 +2,7 @@
 use mathlib.Core.Path.{ap, _∙_}
 use borrow.Author.Needs.{needs}
 use denote.Ref.{now}
+use Rattle.pose.specs.declared.Answer.{Answer}
 use Rattle.driver.specs.Pins.{pinsOf}
 use Rattle.driver.specs.declared.Pins.{Pins}
 use Rattle.boundary.specs.Boundary.{fronted, threeOf}
@@ -24,7 +25,7 @@ returns : tie.Need-returns
 returns c =
     let p = c .before in
     let m = p .before .before in
-    p .put-pins .ensures ∙ ap (λ (x : Pins). fronted (threeOf x) (now (m .before .before .args .out))) (m .pins-of .ensures ∙ ap pinsOf (m .before .handed .ensures))
+    p .put-pins .ensures ∙ ap (λ (x : Pins). fronted (threeOf x) (now (m .before .before .args .out))) (m .pins-of .ensures ∙ ap (λ (a : Answer). pinsOf a (m .before .before .args .w) (m .before .before .args .h)) (m .before .handed .ensures))
 
 pub quayhollow-pins-spec : {M : Type 1} → statement M
 quayhollow-pins-spec =

@@ -1,0 +1,18 @@
+-- `driver::is_side` meets its contract. Assumes nothing.
+use mathlib.Core.Path.{_≡_, refl, sym}
+use mathlib.Core.Bool.{_&&_}
+use Prim.Native.Nat.{ℕ, _<_}
+use native.Mathlib.Omega.{arith}
+use borrow.Author.Tests.{lt-ltb}
+use lib.Dec.{leb}
+use Rattle.driver.proofs.is_side.Statement.{statement}
+use Rattle.driver.proofs.is_side.Tie as tie
+
+returns : tie.Need-returns
+returns c = rw (c .if1 .taken)
+
+returns-2 : tie.Need-returns-2
+returns-2 c = let some : 0 < c .before .args .n = omega (arith, c .if1 .left) in rw (lt-ltb 0 (c .before .args .n) some)
+
+pub is-side-spec : {M : Type 1} → statement M
+is-side-spec = tie.close (tie.spec returns returns-2)
