@@ -2,8 +2,9 @@
 use mathlib.Core.Path.{_≡_, sym, ap, _∙_}
 use mathlib.Core.Bool.{Bool, true, false, cond, true≢false}
 use Prim.Native.Nat.{ℕ, _+_, _*_, _^_, _≤_, _<_}
-use native.Mathlib.Nat.{mul-comm, mul-right-comm, mul-pos, mul-le-mul-left}
+use native.Mathlib.Nat.{le-trans, mul-comm, mul-right-comm, mul-pos, mul-le-mul-left}
 use native.Mathlib.Omega.{arith}
+use lib.Dec.{lit≤}
 use lib.Pow.{pow-add, pow-pos}
 use lib.Ieee.{Float, nan, inf, fin, binary32, up, down, round}
 use lib.Ieee.Exact.{HasValue}
@@ -53,4 +54,4 @@ rounded-close {num} {den} k D r h = through D (moved-by (r .h) unit num den (2 ^
 -- so it is near what the fraction was close to, where the distances leave room
 pub round-near : {num den n m : ℕ} {f : Fraction} (t : ℕ) (s : Bool) (k : ℕ) → 0 < den → k ≤ 1 → num ≤ den * 2 ^ k → 0 < m → (2 ^ k * m + n * 2 ^ 25) * t ≤ 2 ^ 25 * m → Close num den f n m
     → NearTo t (round binary32 s num den) (signed s f)
-round-near {num} {den} t s k D K b M l h = let r = rounded-to s num den k D K b in near-value t (round binary32 s num den) s (pow-pos 149) (mul-pos (pow-pos 25) M) l (r .value) (rounded-close k D r h)
+round-near {num} {den} t s k D K b M l h = let r = rounded-to s num den k D (le-trans K (lit≤ tt)) b in near-value t (round binary32 s num den) s (pow-pos 149) (mul-pos (pow-pos 25) M) l (r .value) (rounded-close k D r h)

@@ -298,7 +298,11 @@ fn answer_at(words: &[u64]) -> Answer
 fn pins_agree(words: &[u64]) -> bool
     ensures { λ r. ⌜ r ≡ pinsAgree (now (words .entry)) ⌝ }
 {
-    let pins = driver::pins_of(answer_at(words), word(words, 5) as usize, word(words, 6) as usize);
+    let pins = driver::pins_of(
+        answer_at(words),
+        word(words, 5) as usize,
+        word(words, 6) as usize,
+    );
     if !pin_agrees(pins.dx, word(words, 7), word(words, 8)) {
         return false;
     }

@@ -9,6 +9,7 @@ use lib.Dec.{T, lit<, lit≤}
 use lib.IntN.{subℕ}
 use lib.Ieee.{Float, nan, inf, fin, binary32, up, down, round, mul, neg, ofBits}
 use lib.Ieee.Scale.{finite}
+use Rattle.lists.specs.Marked.{pick}
 use Rattle.lists.proofs.Cases.{pick-true, pick-false}
 use Rattle.floats.specs.Bound.{Within}
 use Rattle.floats.specs.F32.{0f, 1f}
@@ -53,6 +54,15 @@ sine-within theta h =
     h
 
 -- ---- the rows of a matrix
+
+-- the cosine, or 1, stands in both
+pub diagonal : (theta tx ty : Float) → posedMatrix theta tx ty .m00 ≡ posedMatrix theta tx ty .m11
+unfolding posedMatrix affineMatrix affineFromThetaTxTy identity3 pick
+diagonal theta tx ty = go (isPose theta tx ty)
+  where
+    go : (b : Bool) → pick b (affineMatrix theta tx ty) identity3 .m00 ≡ pick b (affineMatrix theta tx ty) identity3 .m11
+    go true = refl
+    go false = refl
 
 -- what `middle::motion` asks of a row, of both rows
 pub record Rows (m : Matrix3) : Type 0 where

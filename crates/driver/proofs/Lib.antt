@@ -2,3 +2,4 @@ pub mod Whole
 pub mod Scaled
 pub mod Entries
 pub mod Sides
+pub mod Turning

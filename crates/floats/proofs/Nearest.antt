@@ -122,7 +122,7 @@ pub record RoundedTo (s : Bool) (num den w : ℕ) : Type 0 where
 halve : (x y u w : ℕ) → 2 * x ≤ 2 * y + u → u ≤ 2 * w → x ≤ y + w
 halve x y u w h k = omega arith
 
-rounded-below : (s : Bool) (num den k : ℕ) → 0 < den → k ≤ 1 → num < den * 2 ^ k → RoundedTo s num den (2 ^ (124 + k))
+rounded-below : (s : Bool) (num den k : ℕ) → 0 < den → k ≤ 24 → num < den * 2 ^ k → RoundedTo s num den (2 ^ (124 + k))
 rounded-below s num den k D K h =
     let n = num * unit in
     let j = drop 24 n den in
@@ -133,7 +133,7 @@ rounded-below s num den k D K h =
     let z : j ≤ 125 + k = less (size (n / den)) k (size-le (n / den) (149 + k) (div-lt-iff-lt-mul D .1 t)) in
     let w : u ≤ 2 * (2 ^ (124 + k) * den) = le-trans (mul-le-mul-left den (pow-mono z)) (le-of-eq (twice k)) in
     let c : q * 2 ^ j * den ≡ q * u = mul-assoc q (2 ^ j) den ∙ ap (λ (x : ℕ). q * x) (mul-comm (2 ^ j) den) in
-    let f : T (finite (round binary32 false num den)) = within-finite (round binary32 false num den) (1 * 2 ^ 1) 1 (round-within binary32 false num den (1 * 2 ^ 1) 1 D (rep-up 1 1 (lit≤ tt) (lit≤ tt)) (le-trans (le-of-eq (mul-one num)) (le-trans (le-of-lt h) (le-trans (mul-le-mul-left den (pow-mono K)) (le-of-eq (mul-comm den 2)))))) in
+    let f : T (finite (round binary32 false num den)) = within-finite (round binary32 false num den) (1 * 2 ^ 24) 1 (round-within binary32 false num den (1 * 2 ^ 24) 1 D (rep-up 1 24 (lit≤ tt) (lit≤ tt)) (le-trans (le-of-eq (mul-one num)) (le-trans (le-of-lt h) (le-trans (mul-le-mul-left den (pow-mono K)) (le-of-eq (mul-comm den (2 ^ 24))))))) in
     record {
       h = q * 2 ^ j;
       value = subst (λ (x : Float). HasValue x s (q * 2 ^ j) unit) (sym (round-is binary32 s num den)) (units-val binary32 s q j (round-under binary32 num den f));
@@ -151,10 +151,10 @@ rounded-below s num den k D K h =
         next k = omega arith
 
 -- a power of two is a value of the format, and does not move
-rounded-at : (s : Bool) (num den k : ℕ) → 0 < den → k ≤ 1 → num ≡ den * 2 ^ k → RoundedTo s num den (2 ^ (124 + k))
+rounded-at : (s : Bool) (num den k : ℕ) → 0 < den → k ≤ 24 → num ≡ den * 2 ^ k → RoundedTo s num den (2 ^ (124 + k))
 rounded-at s num den k D K e =
     let same : num * 1 ≡ 2 ^ k * den = mul-one num ∙ e ∙ mul-comm den (2 ^ k) in
-    let v : HasValue (round binary32 s (2 ^ k) 1) s (2 ^ k) 1 = round-rep binary32 s (2 ^ k) 1 (rep-down (2 ^ k) 0 (le-trans (pow-mono {j = 1} K) (lit≤ tt)) (lit≤ tt)) in
+    let v : HasValue (round binary32 s (2 ^ k) 1) s (2 ^ k) 1 = round-rep binary32 s (2 ^ k) 1 (rep-down (2 ^ k) 0 (pow-mono {j = 24} K) (lit≤ tt)) in
     let w : num * unit ≡ 2 ^ k * unit * den = ap (λ (z : ℕ). z * unit) (e ∙ mul-comm den (2 ^ k)) ∙ mul-right-comm (2 ^ k) den unit in
     record {
       h = 2 ^ k * unit;
@@ -163,5 +163,5 @@ rounded-at s num den k D K e =
       over = le-trans (le-of-eq w) (le-add-right (2 ^ k * unit * den) (2 ^ (124 + k) * den));
     }
 
-pub rounded-to : (s : Bool) (num den k : ℕ) → 0 < den → k ≤ 1 → num ≤ den * 2 ^ k → RoundedTo s num den (2 ^ (124 + k))
+pub rounded-to : (s : Bool) (num den k : ℕ) → 0 < den → k ≤ 24 → num ≤ den * 2 ^ k → RoundedTo s num den (2 ^ (124 + k))
 rounded-to s num den k D K h = elim (eq-or-lt-of-le h) [ inl e ↦ rounded-at s num den k D K e | inr l ↦ rounded-below s num den k D K l ]

@@ -1,3 +1,4 @@
 pub mod Digits
 pub mod Nearest
 pub mod Terms
+pub mod Still

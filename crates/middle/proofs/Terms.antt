@@ -50,12 +50,12 @@ share-le back x a f w = le-trans (share-units back x) (units-le x a f w)
 
 -- ---- the shift alone, from 2 ^ 14 on
 
-own-share : (s : Bool) (t : Float) → signOf t ≡ s → shareOf s t ≡ unitsOf t
+pub own-share : (s : Bool) (t : Float) → signOf t ≡ s → shareOf s t ≡ unitsOf t
 unfolding pick
 own-share true t e = rw e
 own-share false t e = rw e
 
-other-share : (s : Bool) (t : Float) → signOf t ≡ s → shareOf (not s) t ≡ 0
+pub other-share : (s : Bool) (t : Float) → signOf t ≡ s → shareOf (not s) t ≡ 0
 unfolding pick
 other-share true t e = rw e
 other-share false t e = rw e

@@ -1,3 +1,4 @@
 pub mod Held
 pub mod Wide
 pub mod Motion
+pub mod Still

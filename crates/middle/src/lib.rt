@@ -8,7 +8,7 @@ ghost use lib.Dec.{T, ltb};
 ghost use lib.Ieee.Scale.{finite};
 ghost use Rattle.floats.specs.Bound.{Within};
 ghost use Rattle.floats.specs.Units.{unitsAt};
-ghost use Rattle.middle.specs.Held.{cappedOf, differenceOf};
+ghost use Rattle.middle.specs.Held.{cappedOf, wholeOf, differenceOf};
 ghost use Rattle.middle.specs.Wide.{wideOf, lowerOf, Tidy, patternShare};
 ghost use Rattle.middle.specs.Motion.{motionOf};
 
@@ -142,15 +142,23 @@ fn held(back: bool, n: u64) -> i16
     n as i16
 }
 
-// x - y with its sign, in 1/256 pixel: 2^142 of these numbers are one step, and its half is 2^21 in the highest digit.
+// x - y to the nearest step of 1/256 pixel: 2^142 of these numbers are one step, 2^22 in the highest digit.
+fn rounded(x: Wide, y: Wide) -> u64
+    requires { ⌜ Tidy x × Tidy y × (wideOf y ≤ wideOf x) × (x .high < 2 ^ 60) ⌝ }
+    ensures { λ r. ⌜ r ≡ wholeOf (128 * (wideOf x - wideOf y)) (2 ^ 149) ⌝ }
+{
+    (top(x, y) + 0x20_0000) / 0x40_0000
+}
+
+// The same with its sign, held.
 fn settled(x: Wide, y: Wide) -> i16
     requires { ⌜ Tidy x × Tidy y × (x .high < 2 ^ 60) × (y .high < 2 ^ 60) ⌝ }
     ensures { λ r. ⌜ r ≡ differenceOf (128 * wideOf x) (128 * wideOf y) (2 ^ 149) ⌝ }
 {
     if less(x, y) {
-        return held(true, (top(y, x) + 0x20_0000) / 0x40_0000);
+        return held(true, rounded(y, x));
     }
-    held(false, (top(x, y) + 0x20_0000) / 0x40_0000)
+    held(false, rounded(x, y))
 }
 
 // How far the point (a/2, b/2) moves along the first axis, in 1/256 pixel, where the row p, q, t of a matrix gives its image there. From 2^14 on the

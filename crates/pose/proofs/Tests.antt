@@ -3,6 +3,7 @@ use mathlib.Core.Path.{_≡_, refl, sym, subst}
 use mathlib.Core.Bool.{Bool, true, false, _&&_}
 use lib.Dec.{T, lit<}
 use lib.Ieee.{Float, neg, le, ofBits}
+use lib.Ieee.Bits.{is-true}
 use lib.Ieee.Exact.{HasValue}
 use lib.Ieee.Fits.{and-l, and-r}
 use lib.Ieee.Scale.{finite}
@@ -47,3 +48,8 @@ module _ (theta tx ty : Float) (holds : isPose theta tx ty ≡ true) where
 
   pub pose-ty : T (finite ty)
   pose-ty = and-r (le (neg 2f) theta && le theta 2f && finite tx) (finite ty) all-parts
+
+  -- theta is in range, whatever the shift is
+  pub pose-shifted : (x y : Float) → T (finite x) → T (finite y) → isPose theta x y ≡ true
+  unfolding isPose
+  pose-shifted x y f g = rw (is-true (le (neg 2f) theta && le theta 2f) turns, is-true (finite x) f, is-true (finite y) g)

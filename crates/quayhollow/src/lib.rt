@@ -127,7 +127,15 @@ pub extern "C" fn quayhollow_matrix(number: u8, theta: f32, tx: f32, ty: f32, ou
 
 // The numbers for the pins of an answer that is handed in, to a frame of w by h pixels.
 #[no_mangle]
-pub extern "C" fn quayhollow_pins(number: u8, theta: f32, tx: f32, ty: f32, w: usize, h: usize, out: &mut [i16])
+pub extern "C" fn quayhollow_pins(
+    number: u8,
+    theta: f32,
+    tx: f32,
+    ty: f32,
+    w: usize,
+    h: usize,
+    out: &mut [i16],
+)
     ensures { λ _. ⌜ now (out .exit) ≡ fronted (threeOf (pinsOf (handedOf number theta tx ty) w h)) (now (out .entry)) ⌝ }
 {
     boundary::put_pins(

@@ -10,8 +10,10 @@ use lib.Ieee.Scale.{finite}
 use mir.Syntax.{w16}
 use mir.Val.{toZ, ofZ}
 use mir.ValLaws.{toZ-ofZ}
+use Rattle.pose.specs.Pose.{posedMatrix}
+use Rattle.middle.specs.Motion.{motionOf}
 use Rattle.driver.specs.Pins.{pinOf, finiteOf}
-use Rattle.driver.proofs.Entries.{Rows, rows-posed}
+use Rattle.driver.proofs.Entries.{diagonal, Rows, rows-posed}
 use Rattle.driver.proofs.Scaled.{times-number, pin-times}
 use borrow.Author.Needs.{needs}
 use Rattle.driver.proofs.finite_pins.Statement.{statement}
@@ -32,14 +34,21 @@ posed-matrix-requires : tie.Need-posed-matrix-requires
 posed-matrix-requires c κs = search needs
 
 motion-requires : tie.Need-motion-requires
-motion-requires c κs = let m = rows c in ((m .m00, m .m01, m .m02), c .before .pre .1)
+motion-requires c κs = let m = rows c in search needs
 
 motion-requires-2 : tie.Need-motion-requires-2
-motion-requires-2 c κs = let m = rows (c .before) in let s = c .before .before in ((m .m11, m .m10, m .m12), (s .pre .1 .1, s .pre .1 .0))
+motion-requires-2 c κs = let m = rows (c .before) in search needs
 
 capped-requires : tie.Need-capped-requires
 unfolding ofBits
 capped-requires c κs = let s = c .before .before .before in times-number (s .args .theta) 13 (s .pre .0 .0)
+
+-- the middle's motion by the matrix of the definition
+across : (c : tie.After-motion) → let s = c .before .before in let m = posedMatrix (s .args .theta) (s .args .tx) (s .args .ty) in c .motion .result ≡ motionOf (m .m00) (s .args .a) (m .m01) (s .args .b) (m .m02)
+across c = let s = c .before .before in cc (c .motion .ensures, c .before .posed-matrix .ensures, diagonal (s .args .theta) (s .args .tx) (s .args .ty))
+
+along : (c : tie.After-motion2) → let s = c .before .before .before in let m = posedMatrix (s .args .theta) (s .args .tx) (s .args .ty) in c .motion2 .result ≡ motionOf (m .m11) (s .args .b) (m .m10) (s .args .a) (m .m12)
+along c = let s = c .before .before .before in cc (c .motion2 .ensures, c .before .before .posed-matrix .ensures, diagonal (s .args .theta) (s .args .tx) (s .args .ty))
 
 returns : tie.Need-returns
 unfolding finiteOf ofBits
@@ -49,9 +58,8 @@ returns c =
       same (c .before .before .motion .ok),
       same (c .before .motion2 .ok),
       pin-is (s .args .theta) 13 _ (s .good .0 .1) (s .pre .0 .0) (c .capped .ok) (c .capped .ensures),
-      c .before .before .motion .ensures,
-      c .before .motion2 .ensures,
-      c .before .before .before .posed-matrix .ensures,
+      across (c .before .before),
+      along (c .before),
     )
 
 pub finite-pins-spec : {M : Type 1} → statement M

@@ -9,7 +9,7 @@ use Rattle.driver.proofs.is_side.Statement.{statement}
 use Rattle.driver.proofs.is_side.Tie as tie
 
 returns : tie.Need-returns
-returns c = rw (c .if1 .taken)
+returns c = let none : c .before .args .n ≡ 0 = omega (arith, c .if1 .taken) in rw none
 
 returns-2 : tie.Need-returns-2
 returns-2 c = let some : 0 < c .before .args .n = omega (arith, c .if1 .left) in rw (lt-ltb 0 (c .before .args .n) some)

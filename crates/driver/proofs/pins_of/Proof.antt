@@ -1,6 +1,8 @@
 -- `driver::pins_of` meets its contract. Assumes nothing.
 use mathlib.Core.Path.{_≡_, sym, _∙_}
 use mathlib.Core.Bool.{Bool, true, false, _&&_}
+use Prim.Native.Nat.{_-_, _≤_}
+use native.Mathlib.Omega.{arith}
 use borrow.Author.Tests.{not-true, not-false}
 use Rattle.driver.specs.Pins.{isSide}
 use Rattle.driver.proofs.Sides.{side-bounds, no-frame, of-refusal, of-pose}
@@ -19,6 +21,12 @@ wide c = sym (c .before .is-side .ensures) ∙ not-false _ (c .if1 .left)
 
 high : (c : tie.Else2) → isSide (c .before .before .before .before .args .h) ≡ true
 high c = sym (c .before .is-side2 .ensures) ∙ not-false _ (c .if2 .left)
+
+sides : (c : tie.Else2) → let w = c .before .before .before .before .args .w in let h = c .before .before .before .before .args .h in (1 ≤ w) × (w - 1 ≤ 4095) × (1 ≤ h) × (h - 1 ≤ 4095)
+sides c =
+    let w = side-bounds (c .before .before .before .before .args .w) (wide (c .before .before)) in
+    let h = side-bounds (c .before .before .before .before .args .h) (high c) in
+    (w .0, w .1, h .0, h .1)
 
 is-side-requires : tie.Need-is-side-requires
 is-side-requires c κs = search needs
@@ -52,13 +60,13 @@ enum-known-answer : tie.Need-enum-known-answer
 enum-known-answer c = search needs
 
 sub-posed-pins : tie.Need-sub-posed-pins
-sub-posed-pins c = side-bounds _ (wide (c .before .before .before .before .before)) .0
+sub-posed-pins c = omega (arith, sides (c .before .before .before))
 
 sub-posed-pins-2 : tie.Need-sub-posed-pins-2
-sub-posed-pins-2 c = side-bounds _ (high (c .before .before .before)) .0
+sub-posed-pins-2 c = omega (arith, sides (c .before .before .before))
 
 posed-pins-requires : tie.Need-posed-pins-requires
-posed-pins-requires c κs = let e = c .before .before .before in (side-bounds _ (wide (e .before .before)) .1, side-bounds _ (high e) .1)
+posed-pins-requires c κs = let s = sides (c .before .before .before) in (omega (arith, s), omega (arith, s))
 
 returns-3 : tie.Need-returns-3
 returns-3 c = c .still3 .ensures ∙ sym (of-refusal _ _ _ _ (c .before .enum-told .given .1))

@@ -1,5 +1,4 @@
 -- `middle::lower` meets its contract. Assumes nothing.
-use native.Mathlib.Omega.{arith}
 use Prim.Native.Nat.{_^_}
 use Rattle.middle.proofs.Digits.{by-higher, by-lower}
 use Rattle.middle.proofs.lower.Statement.{statement}

@@ -47,7 +47,7 @@ returns c =
     toZ-ofZ w16 (c .held .result) (record { sfits = c .held .ok })
     ∙ c .held .ensures
     ∙ ap (λ (back : Bool). cappedOf back 32768) (sym (pattern-sign (s .args .t) (t-fits s) (s .pre .0 .2)))
-    ∙ sym (far-motion (s .args .p) (s .args .a) (s .args .q) (s .args .b) (s .args .t) (p-fits s) (q-fits s) (s .pre .0 .0) (s .pre .0 .1) (s .pre .1 .0) (s .pre .1 .1) (t-fits s) (s .pre .0 .2) (c .before .if1 .taken))
+    ∙ sym (far-motion (s .args .p) (s .args .a) (s .args .q) (s .args .b) (s .args .t) (p-fits s) (q-fits s) (s .pre .0 .0) (s .pre .0 .1) (s .pre .1 .0) (s .pre .1 .1) (t-fits s) (s .pre .0 .2) (omega (arith, c .before .if1 .taken)))
 
 float-to-bits-row : tie.Need-float-to-bits-row
 float-to-bits-row c = finite-number (c .before .args .p) (within-finite (c .before .args .p) 1 1 (c .before .pre .0 .0))
@@ -56,10 +56,10 @@ float-to-bits-across : tie.Need-float-to-bits-across
 float-to-bits-across c = finite-number (c .before .args .q) (within-finite (c .before .args .q) 2 1 (c .before .pre .0 .1))
 
 shares-requires : tie.Need-shares-requires
-shares-requires c κs = let s = c .before in ((row s, across s, c .if1 .left), s .pre .1)
+shares-requires c κs = let s = c .before in ((row s, across s, omega (arith, c .if1 .left)), s .pre .1)
 
 shares-requires-2 : tie.Need-shares-requires-2
-shares-requires-2 c κs = let s = c .before .before in ((row s, across s, c .before .if1 .left), s .pre .1)
+shares-requires-2 c κs = let s = c .before .before in ((row s, across s, omega (arith, c .before .if1 .left)), s .pre .1)
 
 sized-requires : tie.Need-sized-requires
 sized-requires c κs = search needs
