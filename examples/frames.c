@@ -45,7 +45,7 @@ int main(void)
     tell("align", code, pose);
     quayhollow_matrix(QUAYHOLLOW_NUMBER(code), pose[0], pose[1], pose[2], m, QUAYHOLLOW_MATRIX_LEN);
     printf("matrix: %.6f %.6f %.6f, %.6f %.6f %.6f, %.6f %.6f %.6f\n", m[0], m[1], m[2], m[3], m[4], m[5], m[6], m[7], m[8]);
-    quayhollow_pins(QUAYHOLLOW_NUMBER(code), pose[0], pose[1], pose[2], pins, QUAYHOLLOW_PINS_LEN);
+    quayhollow_pins(QUAYHOLLOW_NUMBER(code), pose[0], pose[1], pose[2], W, H, pins, QUAYHOLLOW_PINS_LEN);
     printf("pins: %d %d %d\n", pins[0], pins[1], pins[2]);
 
     for (size_t i = 0; i < 4; i++) {

@@ -36,7 +36,7 @@ fn main() {
     tell("align", o);
     let rows = o.answer.matrix().map(|row| row.map(|x| format!("{x:.6}")).join(" "));
     println!("matrix: {}", rows.join(", "));
-    let pins = o.answer.pins();
+    let pins = o.answer.pins(W, H);
     println!("pins: {} {} {}", pins.dx, pins.dy, pins.turn);
 
     let mut aligner = Aligner::new(W, H, settings);

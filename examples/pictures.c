@@ -123,7 +123,7 @@ static void align(struct aligner *a, struct settings s, struct picture p, unsign
     uint32_t code = quayhollow_estimate(p.pixels, n, p.w, p.h, s.eps, s.max_iter, s.filter, s.edge, a->state, QUAYHOLLOW_STATE_LEN, a->store,
                                         a->store_len, a->work, a->work_len, a->marks, a->marks_len, pose, QUAYHOLLOW_POSE_LEN);
     uint8_t number = QUAYHOLLOW_NUMBER(code);
-    quayhollow_pins(number, pose[0], pose[1], pose[2], pins, QUAYHOLLOW_PINS_LEN);
+    quayhollow_pins(number, pose[0], pose[1], pose[2], p.w, p.h, pins, QUAYHOLLOW_PINS_LEN);
     printf("%u %u %u %d %d %d %.6f %.4f %.4f %.6f %s\n", position, number, QUAYHOLLOW_PASSES(code), pins[0], pins[1], pins[2], pose[0], pose[1],
            pose[2], pose[3], quayhollow_words(number));
 }

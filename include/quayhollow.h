@@ -58,7 +58,7 @@ extern "C" {
 #endif
 
 /* What quayhollow_version() answers where the archive belongs to this header. It goes up with every change of a function's parameters. */
-#define QUAYHOLLOW_VERSION 1
+#define QUAYHOLLOW_VERSION 2
 
 /* The numbers. */
 #define QUAYHOLLOW_POSE 0
@@ -190,15 +190,20 @@ void quayhollow_matrix(
     size_t out_len);
 
 /*
- * The numbers for the pins of an answer: the first three of out become dx = tx * 256, dy = ty * 256 and turn = theta * 8192, each to the
- * nearest whole number, half away from zero, held to -32768..32767. They are 0, 0, 0 for a number other than 0 and for a theta, tx or ty
- * that is not finite. An out of fewer than three is as it was.
+ * The numbers for the pins of an answer to a frame of w by h pixels, the frame that was handed in: the first three of out become dx, dy and
+ * turn. dx and dy say how far the matrix moves the middle of the frame, the point (w - 1) / 2, (h - 1) / 2, in 1/256 pixel; turn is
+ * theta * 8192. Each is exact, rounded once to the nearest whole number, half away from zero, and held to -32768..32767. A grip that only
+ * turns about the middle gives 0, 0 and its turn. They are 0, 0, 0 for a number other than 0, for a theta, tx or ty that is not finite and
+ * for a side that is 0 or above 4,096. A theta outside -2..2 has the identity for its matrix: dx and dy are 0, and turn is held. An out of
+ * fewer than three is as it was.
  */
 void quayhollow_pins(
     uint8_t number,
     float theta,
     float tx,
     float ty,
+    size_t w,
+    size_t h,
     int16_t *out,
     size_t out_len);
 

@@ -24,7 +24,7 @@ use std::fmt;
 use std::num::NonZeroU8;
 
 /// What `version()` answers where the archive belongs to this file.
-pub const VERSION: u32 = 1;
+pub const VERSION: u32 = 2;
 
 /// The largest side, filter and max_iter.
 pub const MOST_SIDE: usize = 4096;
@@ -144,7 +144,7 @@ pub struct Outcome {
     pub passes: u32,
 }
 
-/// The shift in 1/256 pixel and the turn in 1/8192 radian.
+/// How far the middle of the frame moves, in 1/256 pixel, and the turn in 1/8192 radian.
 #[derive(Clone, Copy, Debug, Eq, PartialEq)]
 pub struct Pins {
     pub dx: i16,
@@ -179,12 +179,12 @@ impl Answer {
         m
     }
 
-    /// The numbers for the pins: 0, 0, 0 for a refusal.
-    pub fn pins(self) -> Pins {
+    /// The numbers for the pins, of an answer to a frame of w by h pixels: 0, 0, 0 for a refusal, and for a side that is 0 or above 4,096.
+    pub fn pins(self, w: usize, h: usize) -> Pins {
         let (number, p) = (self.number(), self.pose());
         let mut out = [0; 3];
         // SAFETY: out is lent for the call, with its own length
-        unsafe { raw::quayhollow_pins(number, p.theta, p.tx, p.ty, out.as_mut_ptr(), out.len()) };
+        unsafe { raw::quayhollow_pins(number, p.theta, p.tx, p.ty, w, h, out.as_mut_ptr(), out.len()) };
         Pins { dx: out[0], dy: out[1], turn: out[2] }
     }
 }
@@ -369,7 +369,7 @@ mod raw {
 
         pub fn quayhollow_matrix(number: u8, theta: f32, tx: f32, ty: f32, out: *mut f32, out_len: usize);
 
-        pub fn quayhollow_pins(number: u8, theta: f32, tx: f32, ty: f32, out: *mut i16, out_len: usize);
+        pub fn quayhollow_pins(number: u8, theta: f32, tx: f32, ty: f32, w: usize, h: usize, out: *mut i16, out_len: usize);
 
         pub fn quayhollow_estimate(
             frame: *const u8,

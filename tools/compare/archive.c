@@ -9,7 +9,7 @@
  *   kind          numbers                               parts
  *   0 align       w, h, eps, max_iter, filter, edge     template, input, state, store, work, marks, pose; the code's number and passes
  *   1 estimate    the same                              the same
- *   2 answer      number, theta, tx, ty                 matrix, pins
+ *   2 answer      number, theta, tx, ty, w, h           matrix, pins
  *   3 lengths     w, h, edge                            work_len, marks_len, store_len, version
  */
 #include "library.c"
@@ -113,6 +113,8 @@ static void answer(void)
     a.theta = real();
     a.tx = real();
     a.ty = real();
+    a.w = number();
+    a.h = number();
     a.matrix = part(4, &a.matrix_len);
     a.pins = part(2, &a.pins_len);
     c_matrix(&a);

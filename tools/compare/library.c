@@ -24,6 +24,7 @@ struct call {
 struct handed {
     uint8_t number;
     float theta, tx, ty;
+    size_t w, h;
     float *matrix;
     size_t matrix_len;
     int16_t *pins;
@@ -49,7 +50,7 @@ void c_matrix(const struct handed *a)
 
 void c_pins(const struct handed *a)
 {
-    quayhollow_pins(a->number, a->theta, a->tx, a->ty, a->pins, a->pins_len);
+    quayhollow_pins(a->number, a->theta, a->tx, a->ty, a->w, a->h, a->pins, a->pins_len);
 }
 
 void c_lengths(const struct call *c, size_t *out)

@@ -5,7 +5,8 @@
 //!   library --write [CALLS]    prints neither: it writes each call by the header to standard output, with what the oracle expects of it, for the
 //!                              library of another machine. archive.c reads that, and says how a record is made up
 //!
-//! The aligner, the lengths and the pins are held to document 01's rules as tools/oracle/aligner.rs has them.
+//! The aligner and the lengths are held to document 01's rules as tools/oracle/aligner.rs has them, the pins to those of documents 01 and 02 as
+//! tools/oracle/pins.rs has them.
 
 #[path = "../oracle/aligner.rs"]
 mod aligner;
@@ -19,11 +20,16 @@ mod lines;
 #[path = "../../rust/quayhollow.rs"]
 mod quayhollow;
 #[allow(dead_code)]
+#[path = "../oracle/pins.rs"]
+mod pins;
+mod poses;
+#[allow(dead_code)]
 #[path = "../oracle/rules.rs"]
 mod rules;
-use aligner::{pins, pixels, Memory};
+use aligner::{pixels, Memory};
 use ecc::EccConfig;
 use lines::{pick, Stream};
+use pins::pins;
 use quayhollow::{Answer, Outcome, Pose, Settings, State};
 use std::io::{stdout, BufWriter, Stdout, Write};
 use std::ptr::{null, null_mut};
@@ -58,6 +64,8 @@ struct Handed {
     theta: f32,
     tx: f32,
     ty: f32,
+    w: usize,
+    h: usize,
     matrix: *mut f32,
     matrix_len: usize,
     pins: *mut i16,
@@ -226,7 +234,7 @@ impl Tally {
     }
 
     /// a call by the wrapper: its outcome, with the matrix and the pins, and the memory but for the pose
-    fn by_rust(&mut self, what: &str, got: Outcome, o: &ecc::Outcome, m: &mut Memory, expected: &Memory) {
+    fn by_rust(&mut self, what: &str, got: Outcome, o: &ecc::Outcome, (w, h): (usize, usize), m: &mut Memory, expected: &Memory) {
         m.pose = expected.pose.clone();
         let numbers = match got.answer {
             Answer::Posed(p) => [p.theta, p.tx, p.ty, p.rho],
@@ -236,8 +244,8 @@ impl Tally {
         self.hold(same && (got.answer.number(), got.passes as usize) == (o.number, o.passes), what);
         self.hold(m.differs(expected).is_empty(), what);
         self.hold(got.answer.matrix().map(|r| r.map(f32::to_bits)) == ecc::matrix(o).map(|r| r.map(f32::to_bits)), what);
-        let p = got.answer.pins();
-        self.hold([p.dx, p.dy, p.turn] == pins(o), what);
+        let p = got.answer.pins(w, h);
+        self.hold([p.dx, p.dy, p.turn] == pins(o, w, h), what);
     }
 }
 
@@ -296,7 +304,7 @@ fn calls(t: &mut Tally, count: usize) {
         let (o, expected) = t.by_c(Kind::Align, &g, &m);
         let mut by_rust = m.clone();
         let got = quayhollow::align(&g.template, &g.input, w, h, set, &mut by_rust.work, &mut by_rust.marks);
-        t.by_rust("align by the wrapper", got, &o, &mut by_rust, &expected);
+        t.by_rust("align by the wrapper", got, &o, (w, h), &mut by_rust, &expected);
         ends[o.number as usize] += 1;
 
         // the store holds the frame before, or what it held
@@ -310,7 +318,7 @@ fn calls(t: &mut Tally, count: usize) {
             let (mut by_rust, mut state) = (m.clone(), State([a, b, c]));
             let got = quayhollow::estimate(&g.input, w, h, set, &mut state, &mut by_rust.store, &mut by_rust.work, &mut by_rust.marks);
             by_rust.state = state.0.to_vec();
-            t.by_rust("estimate by the wrapper", got, &o, &mut by_rust, &expected);
+            t.by_rust("estimate by the wrapper", got, &o, (w, h), &mut by_rust, &expected);
         }
     }
     if t.out.is_none() {
@@ -326,7 +334,7 @@ fn lengths(t: &mut Tally) {
     for (w, h, edge) in sides.iter().flat_map(|&w| sides.iter().flat_map(move |&h| sides.map(|edge| (w, h, edge)))) {
         let n = pixels(w, h, edge);
         let store = if w > 4096 || h > 4096 { 0 } else { w * h };
-        let expected = [12 * n, n, store, 1];
+        let expected = [12 * n, n, store, 2];
         (c.w, c.h, c.edge) = (w, h, edge);
         let mut out = [9; 4];
         unsafe { c_lengths(&c, out.as_mut_ptr()) };
@@ -351,16 +359,19 @@ fn lengths(t: &mut Tally) {
 /// the matrix and the pins of answers handed in, with any bits, and slices of any length
 fn answers(t: &mut Tally, count: usize) {
     let mut s = Stream(20260118);
-    for _ in 0..count {
+    for i in 0..count {
         let number = |s: &mut Stream| match s.next() % 8 {
             0 => f32::from_bits(s.next()),
             1 => pick(s, &[f32::NAN, f32::INFINITY, f32::NEG_INFINITY, 2.0, -2.0, 2.0000002, -0.0, 128.0, -128.0, 0.001953125]),
             _ => (s.next() as f32 / 4294967296.0 - 0.5) * pick(s, &[0.1, 4.0, 40.0, 300.0]),
         };
-        let (theta, tx, ty) = (number(&mut s), number(&mut s), number(&mut s));
+        let (theta, tx, ty, w, h) = match poses::pose(&mut s, i) {
+            (_, _, _, w, h) if i % 2 == 0 => (number(&mut s), number(&mut s), number(&mut s), w, h),
+            posed => posed,
+        };
         let no = pick(&mut s, &[0, 0, 0, 1, 10, 13, 128, 255]);
         let o = ecc::Outcome { number: no, passes: 0, theta, tx, ty, rho: 0.0 };
-        let (three, nine) = (pins(&o), ecc::matrix(&o).concat());
+        let (three, nine) = (pins(&o, w, h), ecc::matrix(&o).concat());
 
         let long = pick(&mut s, &[9, 9, 10, 12, 8, 0]);
         let (floats, numbers) = (s.floats(long), (0..pick(&mut s, &[3, 3, 4, 6, 2, 0])).map(|i| 1000 + i).collect::<Vec<i16>>());
@@ -373,22 +384,41 @@ fn answers(t: &mut Tally, count: usize) {
         }
         let (mut matrix, mut got) = (floats.clone(), numbers.clone());
         let (matrix_len, pins_len) = (matrix.len(), got.len());
-        let a = Handed { number: no, theta, tx, ty, matrix: lent(&mut matrix), matrix_len, pins: lent(&mut got), pins_len };
+        let a = Handed { number: no, theta, tx, ty, w, h, matrix: lent(&mut matrix), matrix_len, pins: lent(&mut got), pins_len };
         unsafe { c_matrix(&a) };
         unsafe { c_pins(&a) };
         t.hold(bits(&matrix) == bits(&all), "matrix by the header");
         t.hold(got == whole, "pins by the header");
         t.write(|| {
-            Record::new(Kind::Answer, &[no as u32, theta.to_bits(), tx.to_bits(), ty.to_bits()].map(|n| n as u64))
+            Record::new(Kind::Answer, &[no as u64, theta.to_bits() as u64, tx.to_bits() as u64, ty.to_bits() as u64, w as u64, h as u64])
                 .part(&floats, &all, f32::to_le_bytes)
                 .part(&numbers, &whole, i16::to_le_bytes)
         });
         if no == 0 {
             let answer = Answer::Posed(Pose { theta, tx, ty, rho: 0.0 });
             t.hold(bits(&answer.matrix().concat()) == bits(&nine), "matrix by the wrapper");
-            let p = answer.pins();
+            let p = answer.pins(w, h);
             t.hold([p.dx, p.dy, p.turn] == three, "pins by the wrapper");
         }
+    }
+}
+
+/// the pins of many poses at which they are hard to get right
+fn posed(t: &mut Tally, count: usize) {
+    let mut s = Stream(20260119);
+    let (mut out, mut halves, mut tiny, mut far) = ([0; 3], 0, 0, 0);
+    for i in 0..count {
+        let (theta, tx, ty, w, h) = poses::pose(&mut s, i);
+        let o = ecc::Outcome { number: 0, passes: 0, theta, tx, ty, rho: 0.0 };
+        let a = Handed { number: 0, theta, tx, ty, w, h, matrix: null_mut(), matrix_len: 0, pins: lent(&mut out), pins_len: 3 };
+        unsafe { c_pins(&a) };
+        t.hold(out == pins(&o, w, h), "pins of a pose");
+        halves += pins::halves(&o, w, h);
+        tiny += (theta != 0.0 && theta.abs() < 1.0 / 16777216.0) as usize;
+        far += (tx.abs().max(ty.abs()) >= 4096.0) as usize;
+    }
+    if t.out.is_none() {
+        println!("poses {count}: {halves} exact halves among dx and dy, {tiny} turns below 2^-24, {far} shifts from 4,096 on");
     }
 }
 
@@ -399,6 +429,9 @@ fn main() {
     let mut t = Tally { tried: 0, wrong: 0, out };
     lengths(&mut t);
     answers(&mut t, count);
+    if t.out.is_none() {
+        posed(&mut t, 100 * count);
+    }
     calls(&mut t, count);
     match &mut t.out {
         Some(out) => out.flush().expect("the records are written"),

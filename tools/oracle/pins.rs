@@ -50,6 +50,12 @@ impl Exact {
         ((own[149 / 32] as i128 + ((own[149 / 32 + 1] as i128) << 32)) >> (149 % 32)) as i64
     }
 
+    /// whether it is an odd number of halves, over 2^149
+    fn is_half(self) -> bool {
+        let own = self.carried().0;
+        own[..148 / 32].iter().all(|place| *place == 0) && own[148 / 32] & ((2 << (148 % 32)) - 1) == 1 << (148 % 32)
+    }
+
     /// the nearest whole number, half away from zero, held to the range of i16
     fn held(self) -> i16 {
         if self.negative() {
@@ -60,24 +66,38 @@ impl Exact {
     }
 }
 
-/// 256 times (the first number of the image of (x/2, y/2) under the row, less x/2)
-fn moved(row: [f32; 3], x: i64, y: i64, less: i64) -> i16 {
+/// 256 times (the number that a row gives for the point (x/2, y/2), less half of what is named)
+fn moved(row: [f32; 3], x: i64, y: i64, less: i64) -> Exact {
     let mut sum = Exact([0; PLACES]);
     sum.add(row[0], 128 * x);
     sum.add(row[1], 128 * y);
     sum.add(row[2], 256);
     sum.add(-1.0, 128 * less);
-    sum.held()
+    sum
+}
+
+/// how far the middle of a frame moves along both axes, for sides that a frame has and a pose that is finite
+fn middle(o: &Outcome, w: usize, h: usize) -> Option<[Exact; 2]> {
+    let sides = (1..=4096).contains(&w) && (1..=4096).contains(&h);
+    if o.number != 0 || !sides || ![o.theta, o.tx, o.ty].iter().all(|x| x.is_finite()) {
+        return None;
+    }
+    let (m, x, y) = (matrix(o), w as i64 - 1, h as i64 - 1);
+    Some([moved(m[0], x, y, x), moved(m[1], x, y, y)])
 }
 
 /// dx, dy, turn. Zeros for a refusal, for a pose that is not finite and for a side of 0 or above 4,096
 pub fn pins(o: &Outcome, w: usize, h: usize) -> [i16; 3] {
-    let sides = (1..=4096).contains(&w) && (1..=4096).contains(&h);
-    if o.number != 0 || !sides || ![o.theta, o.tx, o.ty].iter().all(|x| x.is_finite()) {
+    let Some([x, y]) = middle(o, w, h) else {
         return [0; 3];
-    }
-    let (m, x, y) = (matrix(o), w as i64 - 1, h as i64 - 1);
+    };
     let mut turn = Exact([0; PLACES]);
     turn.add(o.theta, 8192);
-    [moved(m[0], x, y, x), moved(m[1], x, y, y), turn.held()]
+    [x.held(), y.held(), turn.held()]
+}
+
+/// how many of dx and dy lie exactly between two whole numbers
+#[allow(dead_code)]
+pub fn halves(o: &Outcome, w: usize, h: usize) -> usize {
+    middle(o, w, h).map_or(0, |both| both.iter().filter(|v| v.is_half()).count())
 }

@@ -49,9 +49,9 @@ fn remembered(cfg: EccConfig, state: &[u64]) -> EccAligner
 
 #[no_mangle]
 pub extern "C" fn quayhollow_version() -> u32
-    ensures { λ r. ⌜ r ≡ 1 ⌝ }
+    ensures { λ r. ⌜ r ≡ 2 ⌝ }
 {
-    1
+    2
 }
 
 #[no_mangle]
