@@ -1,5 +1,5 @@
 -- The entries of a pose's matrix: how large they are, and that they are finite. Assumes nothing.
-use mathlib.Core.Path.{_≡_, refl, sym, ap, subst, _∙_}
+use mathlib.Core.Path.{_≡_, refl, sym, subst}
 use mathlib.Core.Logic.{inl, inr}
 use mathlib.Core.Bool.{Bool, true, false}
 use Prim.Native.Nat.{ℕ, _-_, _*_, _^_, _≤_, _<_}
@@ -7,12 +7,11 @@ use native.Mathlib.Nat.{mul-le-mul, div-le-of-le-mul}
 use native.Mathlib.Omega.{arith}
 use lib.Dec.{T, lit<, lit≤}
 use lib.IntN.{subℕ}
-use lib.Ieee.{Float, nan, inf, fin, binary32, up, down, round, mul, neg, ofBits}
+use lib.Ieee.{Float, nan, inf, fin, binary32, down, round, ofBits}
 use lib.Ieee.Scale.{finite}
 use Rattle.lists.specs.Marked.{pick}
 use Rattle.lists.proofs.Cases.{pick-true, pick-false}
 use Rattle.floats.specs.Bound.{Within}
-use Rattle.floats.specs.F32.{0f, 1f}
 use Rattle.floats.proofs.Patterns.{lt-or-le}
 use Rattle.floats.proofs.Within.{within-neg, round-within, mul-within, rep-down}
 use Rattle.series.specs.Recurrence.{quotientOf, stepsOf}

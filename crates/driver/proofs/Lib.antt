@@ -3,3 +3,4 @@ pub mod Scaled
 pub mod Entries
 pub mod Sides
 pub mod Turning
+pub mod Shifting

@@ -2,12 +2,12 @@
 -- there on both are held to the same end. Assumes nothing.
 use mathlib.Core.Path.{_≡_, refl, sym, ap, _∙_}
 use mathlib.Core.Bool.{Bool, true, false, not}
-use Prim.Native.Nat.{ℕ, _+_, _*_, _/_, _^_, _≤_, _<_}
-use native.Mathlib.Nat.{lt-of-lt-of-le, one-mul, mul-one, mul-comm, mul-le-mul-right, add-mul, mul-mul-mul-comm, le-div-iff-mul-le, min-eq-right}
+use Prim.Native.Nat.{ℕ, _+_, _*_, _^_, _≤_, _<_}
+use native.Mathlib.Nat.{lt-of-lt-of-le, one-mul, mul-one, mul-comm, mul-le-mul-right, add-mul, mul-mul-mul-comm}
 use native.Mathlib.Omega.{arith}
 use borrow.Author.Tests.{ltb-true, ltb-false}
 use lib.Dec.{T, ltb, lit≤}
-use lib.IntN.{ℤ, pos, negℤ}
+use lib.IntN.{ℤ, pos}
 use lib.Ieee.{Float, nan, inf, fin, binary32, up, down, round, mul, neg, isNan, fits}
 use lib.Ieee.Exact.{HasValue}
 use lib.Ieee.Fits.{down-pos}
@@ -24,7 +24,7 @@ use Rattle.driver.specs.Pins.{pinOf}
 -- ---- fractions
 
 -- a / c and n / d are the same
-nearest-same : (s : Bool) (a c n d : ℕ) → 0 < c → 0 < d → a * d ≡ n * c → nearestCapped s a c ≡ nearestCapped s n d
+pub nearest-same : (s : Bool) (a c n d : ℕ) → 0 < c → 0 < d → a * d ≡ n * c → nearestCapped s a c ≡ nearestCapped s n d
 unfolding nearestCapped
 nearest-same s a c n d C D h = ap (cappedOf s) (div-same (2 * a + c) (2 * c) (2 * n + d) (2 * d) (omega arith) (omega arith) (doubled h))
   where

@@ -22,7 +22,7 @@ use Rattle.middle.specs.Motion.{motionOf}
 use Rattle.middle.specs.Still.{keepingOf}
 use Rattle.middle.proofs.Still.{keeping-finite, kept}
 use Rattle.driver.specs.Pins.{isSide, pinOf, finiteOf, posedOf, pinsOf}
-use Rattle.driver.specs.Turning.{TurnInPlace}
+use Rattle.driver.specs.Felt.{TurnInPlace}
 use Rattle.driver.proofs.Entries.{cosine-within, sine-within}
 use Rattle.driver.proofs.Sides.{side-bounds, of-pose}
 

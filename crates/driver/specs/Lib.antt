@@ -1,2 +1,2 @@
 pub mod Pins
-pub mod Turning
+pub mod Felt

@@ -1,6 +1,6 @@
 -- The driver numbers: dx and dy by document 02, request 2, turn by document 01. Exact, to the nearest whole number, half away from zero, held to
 -- -32768..32767. Definitions only. All is in whole numbers: a finite value is m * up e / down e with a sign, and nothing is rounded but the last quotient.
-use mathlib.Core.Bool.{Bool, true, false, _&&_}
+use mathlib.Core.Bool.{Bool, _&&_}
 use Prim.Native.Nat.{ℕ, _-_, _*_}
 use lib.Dec.{ltb, leb}
 use lib.IntN.{ℤ, pos}

@@ -6,21 +6,20 @@ use Prim.Native.Nat.{ℕ, zero, suc, _+_, _-_, _*_, _/_, _^_, _≤_, _<_, min}
 use native.Mathlib.Nat.{le-trans, add-mul, mul-le-mul, mul-le-mul-left, le-of-mul-le-mul-right, div-eq-of-lt, le-div-iff-mul-le}
 use native.Mathlib.Omega.{arith}
 use borrow.Author.Tests.{lt-ltb, le-ltb}
-use lib.Dec.{T, ltb, lit<, lit≤}
-use lib.IntN.{ℤ, pos, negsuc, negℤ}
+use lib.Dec.{T, lit<, lit≤}
+use lib.IntN.{pos, negℤ}
 use lib.Pow.{pow-pos}
 use lib.Ieee.{Float, binary32, fits, round}
 use lib.Ieee.Scale.{finite}
-use Rattle.lists.specs.Marked.{pick}
 use Rattle.lists.proofs.Cases.{pick-true, pick-false}
 use Rattle.floats.specs.Bound.{Within}
-use Rattle.floats.specs.Units.{unitsOf, signOf}
+use Rattle.floats.specs.Units.{signOf}
 use Rattle.floats.proofs.Values.{value-finite, value-sign}
 use Rattle.floats.proofs.Patterns.{lt-or-le, value-units}
 use Rattle.floats.proofs.Nearest.{RoundedTo, rounded-to}
 use Rattle.middle.specs.Held.{cappedOf, nearestCapped, differenceOf}
 use Rattle.middle.specs.Motion.{shareOf, imageOf, motionOf}
-use Rattle.middle.specs.Still.{Unfelt, StillExactly, keepingOf, KeptInPlace}
+use Rattle.middle.specs.Still.{StillExactly, keepingOf, KeptInPlace}
 use Rattle.middle.proofs.Nearest.{back, ahead}
 use Rattle.middle.proofs.Terms.{share-le, own-share, other-share}
 
@@ -30,7 +29,7 @@ capped-zero : (s : Bool) → cappedOf s 0 ≡ pos 0
 capped-zero true = refl
 capped-zero false = refl
 
-small-zero : (s : Bool) (n d : ℕ) → 2 * n < d → nearestCapped s n d ≡ pos 0
+pub small-zero : (s : Bool) (n d : ℕ) → 2 * n < d → nearestCapped s n d ≡ pos 0
 unfolding nearestCapped
 small-zero s n d h = ap (cappedOf s) (div-eq-of-lt (omega arith)) ∙ capped-zero s
 

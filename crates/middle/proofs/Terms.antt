@@ -1,10 +1,10 @@
 -- What a value adds and takes away, by its bit pattern and by its bounds; and the shift that decides alone. Assumes nothing.
 use mathlib.Core.Path.{_≡_, refl, sym, ap, ap₂, _∙_}
 use mathlib.Core.Bool.{Bool, true, false, not}
-use Prim.Native.Nat.{ℕ, zero-le, _+_, _*_, _%_, _^_, _≤_, _<_}
+use Prim.Native.Nat.{ℕ, zero-le, _+_, _*_, _%_, _^_, _≤_}
 use native.Mathlib.Nat.{le-refl, le-trans, le-of-eq, mul-one, mul-le-mul, mul-le-mul-left}
 use native.Mathlib.Omega.{arith}
-use lib.Dec.{T, leb, lit<, lit≤}
+use lib.Dec.{T, leb, lit≤}
 use lib.Pow.{pow-pos}
 use lib.Ieee.{Float, binary32, unlike, fits, toBits}
 use lib.Ieee.Scale.{finite}

@@ -2,7 +2,6 @@
 //
 // A finite f32 is a whole number of units of 2^-149. Sums of such numbers are kept whole, in three digits of 60 bits.
 ghost use mathlib.Core.Path.{_≡_};
-ghost use mathlib.Core.Bool.{Bool};
 ghost use Prim.Native.Nat.{_+_, _-_, _*_, _/_, _%_, _^_, _≤_, _<_};
 ghost use lib.Dec.{T, ltb};
 ghost use lib.Ieee.Scale.{finite};

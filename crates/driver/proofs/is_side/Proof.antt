@@ -1,10 +1,8 @@
 -- `driver::is_side` meets its contract. Assumes nothing.
-use mathlib.Core.Path.{_≡_, refl, sym}
-use mathlib.Core.Bool.{_&&_}
-use Prim.Native.Nat.{ℕ, _<_}
+use mathlib.Core.Path.{_≡_}
+use Prim.Native.Nat.{_<_}
 use native.Mathlib.Omega.{arith}
 use borrow.Author.Tests.{lt-ltb}
-use lib.Dec.{leb}
 use Rattle.driver.proofs.is_side.Statement.{statement}
 use Rattle.driver.proofs.is_side.Tie as tie
 

@@ -1,16 +1,14 @@
 -- `middle::held` meets its contract. Assumes nothing.
-use mathlib.Core.Path.{_≡_, refl, sym, ap, _∙_}
-use mathlib.Core.Bool.{Bool, true, false}
+use mathlib.Core.Path.{_≡_, refl, sym, ap}
+use mathlib.Core.Bool.{true, false}
 use Prim.Native.Nat.{ℕ, zero, suc, _-_, _≤_, _<_}
 use native.Mathlib.Nat.{min-eq-left}
 use native.Mathlib.Omega.{arith}
 use borrow.Author.Tests.{lt-ltb}
-use lib.IntN.{ℤ, pos, negsuc, negℤ, _-ℤ_}
-use lib.Signed.{mag}
+use lib.IntN.{pos, negsuc, negℤ, _-ℤ_}
 use mir.Syntax.{w16}
-use mir.Val.{toZ, ofZ, SFits}
+use mir.Val.{toZ, SFits}
 use mir.ValLaws.{toZ-ofZ}
-use Rattle.middle.specs.Held.{cappedOf}
 use Rattle.middle.proofs.Nearest.{capped-far}
 use borrow.Author.Needs.{needs}
 use Rattle.middle.proofs.held.Statement.{statement}

@@ -1,6 +1,6 @@
 -- `middle::motion` meets its contract. Assumes nothing.
-use mathlib.Core.Path.{_≡_, sym, ap, ap₂, subst, _∙_}
-use mathlib.Core.Bool.{Bool, true}
+use mathlib.Core.Path.{sym, ap, ap₂, subst, _∙_}
+use mathlib.Core.Bool.{Bool}
 use Prim.Native.Nat.{_+_, _%_, _<_}
 use native.Mathlib.Omega.{arith}
 use lib.Dec.{T, lit<}
@@ -8,7 +8,6 @@ use lib.Ieee.{binary32, fits, toBits}
 use mir.Syntax.{w16}
 use mir.ValLaws.{toZ-ofZ}
 use Rattle.lists.specs.Marked.{pick}
-use Rattle.floats.specs.Bound.{Within}
 use Rattle.floats.proofs.Values.{finite-number}
 use Rattle.floats.proofs.Within.{within-finite}
 use Rattle.floats.proofs.Patterns.{pattern-lt}

@@ -2,7 +2,6 @@
 use mathlib.Core.Path.{_≡_, sym, _∙_}
 use Prim.Native.Nat.{_-_, _/_, _^_, _≤_}
 use native.Mathlib.Nat.{le-trans, sub-le}
-use native.Mathlib.Omega.{arith}
 use borrow.Author.Tests.{ltb-true, ltb-false}
 use Rattle.middle.specs.Wide.{lowerOf, wideOf}
 use Rattle.middle.proofs.Digits.{lower-small, top-whole, top-borrow}
