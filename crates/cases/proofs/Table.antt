@@ -5,6 +5,7 @@ use Rattle.lists.specs.Lists.{grow, tab, grid}
 use Rattle.lists.specs.Marked.{pick, overMarked}
 use Rattle.marks.specs.Marks.{countOn}
 use Rattle.floats.specs.Sums.{sumOver}
+use Rattle.lists.specs.Premises.{isSide}
 use Rattle.floats.specs.Units.{unitsOf}
 use Rattle.numbers.specs.Numbers.{floorOf, nearestOf, roundOf, maxOf, absOf}
 use Rattle.root.specs.Root.{sqrtOf}
@@ -34,7 +35,7 @@ use Rattle.driver.specs.Pins.{pinOf, finiteOf, posedOf, pinsOf}
 use Rattle.cases.specs.Table.{Starred}
 
 pub starred : Starred
-unfolding add sub mul div round lt isNan ofInt ofBits toBits toUnsigned grow tab grid pick floorOf nearestOf roundOf maxOf sqrtOf over30Of cosOf sinOf expNegOf scaledSideOf sideOf resizedOf placeOf firstOf tapOf byteOf lerpOf bilinearOf resizeOf gradientX sum neg eq le overMarked countOn affineFromThetaTxTy sxOf syOf inside markedAt markOf marksOf indexOf fourOf warp.sampleOf pixelOf warpOf isPose identity3 affineMatrix posedMatrix matrixOf sizeOf roomOf limitsOf checkOf blurOf grayOf prepare.scaledOf preparedOf gradientY meanOf centredOf productOf statsOf rowsOverOf inverseOf dotOf timesOf steepOf projOf hessianOf errorOf movedOf updateOf solveOf verdictOf onward weighedOf passOf start landed next after unscaledOf outcomeOf passIn runOf alignedOf sumOver absOf unitsOf nearestCapped differenceOf motionOf pinOf finiteOf posedOf pinsOf
+unfolding add sub mul div round lt isNan ofInt ofBits toBits toUnsigned grow tab grid pick floorOf nearestOf roundOf maxOf sqrtOf over30Of cosOf sinOf expNegOf scaledSideOf sideOf resizedOf placeOf firstOf tapOf byteOf lerpOf bilinearOf resizeOf gradientX sum neg eq le overMarked countOn affineFromThetaTxTy sxOf syOf inside markedAt markOf marksOf indexOf fourOf warp.sampleOf pixelOf warpOf isPose identity3 affineMatrix posedMatrix matrixOf sizeOf roomOf limitsOf checkOf blurOf grayOf prepare.scaledOf preparedOf gradientY meanOf centredOf productOf statsOf rowsOverOf inverseOf dotOf timesOf steepOf projOf hessianOf errorOf movedOf updateOf solveOf verdictOf onward weighedOf passOf start landed next after unscaledOf outcomeOf passIn runOf alignedOf sumOver absOf isSide unitsOf nearestCapped differenceOf motionOf pinOf finiteOf posedOf pinsOf
 starred = record {
   marks-of-5x5 = refl;
   marks-of-4x5 = refl;

@@ -1,9 +1,9 @@
 -- Where the turn does not move the middle, dx and dy are those of document 01. Assumes nothing.
 use mathlib.Core.Path.{_≡_, refl, sym, ap, _∙_}
 use mathlib.Core.Logic.{inl, inr}
-use mathlib.Core.Bool.{Bool, true, false, not, _&&_}
-use Prim.Native.Nat.{ℕ, _+_, _-_, _*_, _^_, _≤_, _<_}
-use native.Mathlib.Nat.{mul-assoc, mul-zero}
+use mathlib.Core.Bool.{Bool, true, false, _&&_}
+use Prim.Native.Nat.{ℕ, _+_, _-_, _*_, _^_, _<_}
+use native.Mathlib.Nat.{mul-assoc}
 use native.Mathlib.Omega.{arith}
 use lib.Dec.{T}
 use lib.IntN.{pos}
@@ -14,6 +14,7 @@ use lib.Ieee.Exact.{HasValue}
 use lib.Ieee.Fits.{down-pos}
 use lib.Ieee.Scale.{finite}
 use Rattle.lists.specs.Marked.{pick}
+use Rattle.lists.specs.Premises.{isSide}
 use Rattle.lists.proofs.Cases.{pick-true}
 use Rattle.floats.specs.F32.{0f, 1f}
 use Rattle.floats.specs.Units.{unitsOf, signOf}
@@ -25,12 +26,12 @@ use Rattle.series.specs.Series.{zOf, over30Of, cosOf, sinOf}
 use Rattle.pose.specs.Pose.{isPose, affineFromThetaTxTy, affineMatrix, posedMatrix}
 use Rattle.pose.specs.declared.Answer.the-variants.{Posed}
 use Rattle.pose.proofs.Tests.{pose-theta, pose-tx, pose-ty}
-use Rattle.middle.specs.Held.{cappedOf, nearestCapped, differenceOf}
+use Rattle.middle.specs.Held.{nearestCapped, differenceOf}
 use Rattle.middle.specs.Motion.{shareOf, imageOf, motionOf}
 use Rattle.middle.proofs.Nearest.{back, ahead}
 use Rattle.middle.proofs.Still.{small-zero}
 use Rattle.middle.proofs.Terms.{own-share, other-share}
-use Rattle.driver.specs.Pins.{pinOf, finiteOf, posedOf, pinsOf}
+use Rattle.driver.specs.Pins.{pinOf, finiteOf, posedOf}
 use Rattle.driver.specs.Felt.{ShiftAsBefore, OnePixelAsBefore}
 use Rattle.driver.proofs.Scaled.{nearest-same}
 use Rattle.driver.proofs.Sides.{of-pose}
@@ -114,6 +115,7 @@ none p q = zeros (shareOf false p) (shareOf false q) (shareOf true p) (shareOf t
     zeros x y z w u = omega arith
 
 pub one-pixel : OnePixelAsBefore
+unfolding isSide
 one-pixel theta tx ty rho X Y P =
     of-pose (Posed theta tx ty rho) theta tx ty rho 1 1 refl refl refl
     ∙ shifted theta tx ty 0 0 X Y P (none (cosOf theta) (neg (sinOf theta))) (none (cosOf theta) (sinOf theta))

@@ -6,10 +6,11 @@ use native.Mathlib.Omega.{arith}
 use borrow.Author.Tests.{ltb-true, leb-true}
 use lib.Dec.{ltb, leb}
 use lib.Ieee.{Float}
+use Rattle.lists.specs.Premises.{isSide}
 use Rattle.lists.proofs.Cases.{pick-true, pick-false}
 use Rattle.pose.specs.declared.Answer.{Answer}
 use Rattle.pose.specs.declared.Answer.the-variants.{Posed, Refused}
-use Rattle.driver.specs.Pins.{stillOf, isSide, posedOf, pinsOf}
+use Rattle.driver.specs.Pins.{stillOf, posedOf, pinsOf}
 
 both : (a b : Bool) → (a && b) ≡ true → (a ≡ true) × (b ≡ true)
 both true b e = (refl, e)
@@ -17,7 +18,8 @@ both false b e = absurd (true≢false (sym e))
 
 -- 1 to 4,096
 pub side-bounds : (n : ℕ) → isSide n ≡ true → (1 ≤ n) × (n - 1 ≤ 4095)
-side-bounds n e = let b = both (ltb 0 n) (leb n 4096) e in (ltb-true 0 n (b .0), less n (leb-true n 4096 (b .1)))
+unfolding isSide
+side-bounds n e = let b = both (leb n 4096) (ltb 0 n) e in (ltb-true 0 n (b .1), less n (leb-true n 4096 (b .0)))
   where
     less : (n : ℕ) → n ≤ 4096 → n - 1 ≤ 4095
     less n h = omega arith

@@ -8,6 +8,7 @@ use lib.Ieee.{Float, binary32, round, neg, fits}
 use lib.Ieee.Bits.{is-true}
 use lib.Ieee.Fits.{round-fits, mul-fits, neg-fits}
 use lib.Ieee.Scale.{finite}
+use Rattle.lists.specs.Premises.{isSide}
 use Rattle.lists.proofs.Cases.{pick-true}
 use Rattle.floats.specs.Bound.{Within}
 use Rattle.floats.specs.F32.{0f}
@@ -21,7 +22,7 @@ use Rattle.pose.specs.declared.Answer.the-variants.{Posed}
 use Rattle.middle.specs.Motion.{motionOf}
 use Rattle.middle.specs.Still.{keepingOf}
 use Rattle.middle.proofs.Still.{keeping-finite, kept}
-use Rattle.driver.specs.Pins.{isSide, pinOf, finiteOf, posedOf, pinsOf}
+use Rattle.driver.specs.Pins.{pinOf, finiteOf, posedOf, pinsOf}
 use Rattle.driver.specs.Felt.{TurnInPlace}
 use Rattle.driver.proofs.Entries.{cosine-within, sine-within}
 use Rattle.driver.proofs.Sides.{side-bounds, of-pose}

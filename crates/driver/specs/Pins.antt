@@ -1,12 +1,12 @@
 -- The driver numbers: dx and dy by document 02, request 2, turn by document 01. Exact, to the nearest whole number, half away from zero, held to
 -- -32768..32767. Definitions only. All is in whole numbers: a finite value is m * up e / down e with a sign, and nothing is rounded but the last quotient.
-use mathlib.Core.Bool.{Bool, _&&_}
+use mathlib.Core.Bool.{_&&_}
 use Prim.Native.Nat.{ℕ, _-_, _*_}
-use lib.Dec.{ltb, leb}
 use lib.IntN.{ℤ, pos}
 use lib.Ieee.{Float, nan, inf, fin, up, down}
 use lib.Ieee.Scale.{finite}
 use Rattle.lists.specs.Marked.{pick}
+use Rattle.lists.specs.Premises.{isSide}
 use Rattle.pose.specs.Pose.{posedMatrix}
 use Rattle.pose.specs.declared.Answer.{Answer}
 use Rattle.pose.specs.declared.Answer.the-variants.{Posed, Refused}
@@ -25,10 +25,6 @@ pinOf k (fin s m e) = nearestCapped s (k * (m * up e)) (down e)
 abbrev pub stillOf : Pins
 stillOf = record { dx = pos 0; dy = pos 0; turn = pos 0 }
 
--- a side of a frame: 1 to 4,096
-abbrev pub isSide : ℕ → Bool
-isSide n = ltb 0 n && leb n 4096
-
 -- of a pose that is finite: how far its matrix moves the point (a/2, b/2), and its turn
 unfoldable pub finiteOf : Float → Float → Float → ℕ → ℕ → Pins
 unfolding pinOf posedMatrix motionOf
@@ -43,6 +39,6 @@ posedOf theta tx ty a b = pick (finite theta && finite tx && finite ty) (finiteO
 
 -- of an answer to a frame of w by h pixels, whose middle is ((w - 1)/2, (h - 1)/2): 0, 0, 0 for a refusal and for sides that no frame has
 unfoldable pub pinsOf : Answer → ℕ → ℕ → Pins
-unfolding posedOf
+unfolding isSide posedOf
 pinsOf (Refused k) w h = stillOf
 pinsOf (Posed theta tx ty rho) w h = pick (isSide w && isSide h) (posedOf theta tx ty (w - 1) (h - 1)) stillOf

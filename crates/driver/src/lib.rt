@@ -7,7 +7,8 @@ ghost use lib.Dec.{T};
 ghost use lib.Ieee.{isNan};
 ghost use lib.Ieee.Scale.{finite};
 ghost use Prim.Native.Nat.{_≤_};
-ghost use Rattle.driver.specs.Pins.{pinOf, stillOf, isSide, finiteOf, posedOf, pinsOf};
+ghost use Rattle.lists.specs.Premises.{isSide};
+ghost use Rattle.driver.specs.Pins.{pinOf, stillOf, finiteOf, posedOf, pinsOf};
 use pose::Answer;
 
 pub struct Pins {

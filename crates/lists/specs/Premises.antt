@@ -1,7 +1,9 @@
 -- What the inner functions ask of sides, filter and lent memory, and what is known of bytes, each said once. Definitions only.
 use Prim.Native.Nat.{ℕ, _*_, _%_, _≤_, _<_}
+use mathlib.Core.Bool.{Bool, _&&_}
 use mathlib.Core.Path.{_≡_}
 use mathlib.Core.List.{List}
+use lib.Dec.{ltb, leb}
 use lib.ListN.{length, getD}
 use lib.Ieee.{Float}
 
@@ -11,6 +13,10 @@ pub record InRange (w h : ℕ) : Type 0 where
   pub w-most : w ≤ 4096
   pub h-least : 1 ≤ h
   pub h-most : h ≤ 4096
+
+-- one side by itself, as a test
+unfoldable pub isSide : ℕ → Bool
+isSide n = leb n 4096 && ltb 0 n
 
 -- a filter that is taken: odd, up to 31
 pub record OddFilter (ksize : ℕ) : Type 0 where

@@ -9,7 +9,7 @@ use lib.Dec.{lit<}
 use lib.IntN.{pos, negℤ}
 use lib.Pow.{pow-pos}
 use Rattle.lists.proofs.Cases.{pick-true, pick-false}
-use Rattle.middle.specs.Held.{cappedOf, wholeOf, nearestCapped, differenceOf}
+use Rattle.middle.specs.Held.{cappedOf, nearestWhole, nearestCapped, differenceOf}
 
 -- 4 * 2 ^ 20 * p to a step, of which p are one in the highest digit
 scaled : (d p : ℕ) → 0 < p → (2 * (128 * d) + 2 ^ 29 * p) / (2 * (2 ^ 29 * p)) ≡ (d / p + 2 ^ 21) / 2 ^ 22
@@ -21,7 +21,7 @@ scaled d p h =
     ∙ sym (div-div-eq-div-mul (d + 2 ^ 21 * p) p (2 ^ 22))
     ∙ ap (λ (z : ℕ). z / 2 ^ 22) (add-mul-div-right d (2 ^ 21) h)
 
-pub by-top : (d : ℕ) → wholeOf (128 * d) (2 ^ 149) ≡ (d / 2 ^ 120 + 2 ^ 21) / 2 ^ 22
+pub by-top : (d : ℕ) → nearestWhole (128 * d) (2 ^ 149) ≡ (d / 2 ^ 120 + 2 ^ 21) / 2 ^ 22
 by-top d = scaled d (2 ^ 120) (pow-pos 120)
 
 -- ---- a difference by its sign
@@ -34,13 +34,13 @@ pub ahead : (g l d : ℕ) → l ≤ g → differenceOf g l d ≡ nearestCapped f
 unfolding differenceOf
 ahead g l d h = pick-false _ _ _ (le-ltb g l h)
 
-pub scaled-back : (x y : ℕ) → x < y → differenceOf (128 * x) (128 * y) (2 ^ 149) ≡ cappedOf true (wholeOf (128 * (y - x)) (2 ^ 149))
+pub scaled-back : (x y : ℕ) → x < y → differenceOf (128 * x) (128 * y) (2 ^ 149) ≡ cappedOf true (nearestWhole (128 * (y - x)) (2 ^ 149))
 unfolding nearestCapped
 scaled-back x y h =
     let d : 128 * y - 128 * x ≡ 128 * (y - x) = omega arith in
     back (128 * x) (128 * y) (2 ^ 149) (omega arith) ∙ ap (λ (n : ℕ). nearestCapped true n (2 ^ 149)) d
 
-pub scaled-ahead : (x y : ℕ) → y ≤ x → differenceOf (128 * x) (128 * y) (2 ^ 149) ≡ cappedOf false (wholeOf (128 * (x - y)) (2 ^ 149))
+pub scaled-ahead : (x y : ℕ) → y ≤ x → differenceOf (128 * x) (128 * y) (2 ^ 149) ≡ cappedOf false (nearestWhole (128 * (x - y)) (2 ^ 149))
 unfolding nearestCapped
 scaled-ahead x y h =
     let d : 128 * x - 128 * y ≡ 128 * (x - y) = omega arith in

@@ -11,12 +11,12 @@ cappedOf true n = negℤ (pos (min n 32768))
 cappedOf false n = pos (min n 32767)
 
 -- n / d to the nearest whole number, half up
-abbrev pub wholeOf : ℕ → ℕ → ℕ
-wholeOf n d = (2 * n + d) / (2 * d)
+abbrev pub nearestWhole : ℕ → ℕ → ℕ
+nearestWhole n d = (2 * n + d) / (2 * d)
 
 -- n / d with its sign, to the nearest whole number, half away from zero, held
 unfoldable pub nearestCapped : Bool → ℕ → ℕ → ℤ
-nearestCapped s n d = cappedOf s (wholeOf n d)
+nearestCapped s n d = cappedOf s (nearestWhole n d)
 
 -- (g - l) / d, the same
 unfoldable pub differenceOf : ℕ → ℕ → ℕ → ℤ

@@ -7,7 +7,7 @@ ghost use lib.Dec.{T, ltb};
 ghost use lib.Ieee.Scale.{finite};
 ghost use Rattle.floats.specs.Bound.{Within};
 ghost use Rattle.floats.specs.Units.{unitsAt};
-ghost use Rattle.middle.specs.Held.{cappedOf, wholeOf, differenceOf};
+ghost use Rattle.middle.specs.Held.{cappedOf, nearestWhole, differenceOf};
 ghost use Rattle.middle.specs.Wide.{wideOf, lowerOf, Tidy, patternShare};
 ghost use Rattle.middle.specs.Motion.{motionOf};
 
@@ -144,7 +144,7 @@ fn held(back: bool, n: u64) -> i16
 // x - y to the nearest step of 1/256 pixel: 2^142 of these numbers are one step, 2^22 in the highest digit.
 fn rounded(x: Wide, y: Wide) -> u64
     requires { ⌜ Tidy x × Tidy y × (wideOf y ≤ wideOf x) × (x .high < 2 ^ 60) ⌝ }
-    ensures { λ r. ⌜ r ≡ wholeOf (128 * (wideOf x - wideOf y)) (2 ^ 149) ⌝ }
+    ensures { λ r. ⌜ r ≡ nearestWhole (128 * (wideOf x - wideOf y)) (2 ^ 149) ⌝ }
 {
     (top(x, y) + 0x20_0000) / 0x40_0000
 }

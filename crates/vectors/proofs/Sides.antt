@@ -8,7 +8,8 @@ use borrow.Author.Tests.{lt-ltb, le-leb, lt-leb, eq-eqb, ne-eqb, ltb-true, leb-t
 use lib.Dec.{leb, ltb, eqb, lit≤}
 use Rattle.lists.specs.Marked.{pick}
 use Rattle.lists.proofs.Cases.{pick-true, pick-false, choose}
-use Rattle.vectors.specs.Shapes.{isShape, isSide, isFilter, isKernel, noShape, Filtered, Fitting}
+use Rattle.lists.specs.Premises.{isSide}
+use Rattle.vectors.specs.Shapes.{isShape, isFilter, isKernel, noShape, Filtered, Fitting}
 use Rattle.vectors.specs.declared.shapes.Shape.{Shape}
 use Rattle.vectors.proofs.Tests.{both, first-failed, second-failed, first-of, second-of}
 

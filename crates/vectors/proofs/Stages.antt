@@ -26,7 +26,8 @@ use Rattle.prepare.proofs.Frames.{length-rows, length-columns}
 use Rattle.prepare.proofs.Work.{prepared-image}
 use Rattle.words.specs.Words.{storedAt, bytesAt, floatsAt, floatsAgree}
 use Rattle.resize.proofs.Sizes.{length-resize}
-use Rattle.vectors.specs.Shapes.{isShape, isSide, isFilter, Filtered, Fitting}
+use Rattle.lists.specs.Premises.{isSide}
+use Rattle.vectors.specs.Shapes.{isShape, isFilter, Filtered, Fitting}
 use Rattle.vectors.specs.Images.{sidesAgree, resizeAgrees, kernelAgrees, blurAgrees, gradientAgrees, preparedAgrees}
 use Rattle.vectors.specs.declared.shapes.Shape.{Shape}
 use Rattle.vectors.proofs.Tests.{and-passed, both, first-failed, second-failed}

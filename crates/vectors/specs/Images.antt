@@ -11,7 +11,8 @@ use Rattle.blur.specs.Blur.{blurOf}
 use Rattle.gradients.specs.Gradients.{gradientX, gradientY}
 use Rattle.prepare.specs.Prepared.{preparedOf}
 use Rattle.words.specs.Words.{storedAt, bytesAt, floatsAt, floatsAgree}
-use Rattle.vectors.specs.Shapes.{isShape, isSide, isFilter, isKernel}
+use Rattle.lists.specs.Premises.{isSide}
+use Rattle.vectors.specs.Shapes.{isShape, isFilter, isKernel}
 use Rattle.vectors.specs.Kinds.{ofKind}
 
 -- the edge, w, h; the sides after

@@ -10,10 +10,6 @@ use Rattle.vectors.specs.declared.shapes.Shape.{Shape}
 unfoldable pub isShape : ℕ → ℕ → Bool
 isShape w h = ltb 0 w && ltb 0 h && leb (w * h) 1024
 
--- a side that a frame may have
-unfoldable pub isSide : ℕ → Bool
-isSide n = leb n 4096 && ltb 0 n
-
 -- the size of a filter: odd, at most 31
 unfoldable pub isFilter : ℕ → Bool
 isFilter k = leb k 31 && eqb (k % 2) 1

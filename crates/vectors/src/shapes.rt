@@ -3,7 +3,8 @@ ghost use mathlib.Core.Path.{_≡_};
 ghost use Prim.Native.Nat.{_+_, _*_, _≤_};
 ghost use Rattle.lists.specs.Marked.{pick};
 ghost use Rattle.words.specs.Words.{storedAt};
-ghost use Rattle.vectors.specs.Shapes.{isSide, noShape, Filtered, Fitting};
+ghost use Rattle.lists.specs.Premises.{isSide};
+ghost use Rattle.vectors.specs.Shapes.{noShape, Filtered, Fitting};
 use words::word;
 
 // A side up to 4,096, or 0 where the word is more.

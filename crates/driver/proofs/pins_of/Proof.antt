@@ -4,7 +4,8 @@ use mathlib.Core.Bool.{Bool, true, false, _&&_}
 use Prim.Native.Nat.{_-_, _≤_}
 use native.Mathlib.Omega.{arith}
 use borrow.Author.Tests.{not-true, not-false}
-use Rattle.driver.specs.Pins.{isSide}
+use Rattle.driver.specs.Pins.{}
+use Rattle.lists.specs.Premises.{isSide}
 use Rattle.driver.proofs.Sides.{side-bounds, no-frame, of-refusal, of-pose}
 use borrow.Author.Needs.{needs}
 use Rattle.driver.proofs.pins_of.Statement.{statement}
