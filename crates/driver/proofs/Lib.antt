@@ -2,5 +2,3 @@ pub mod Whole
 pub mod Scaled
 pub mod Entries
 pub mod Sides
-pub mod Turning
-pub mod Shifting

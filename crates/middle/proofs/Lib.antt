@@ -1,4 +1,3 @@
 pub mod Digits
 pub mod Nearest
 pub mod Terms
-pub mod Still

@@ -1,4 +1,3 @@
 pub mod Held
 pub mod Wide
 pub mod Motion
-pub mod Still

@@ -18,7 +18,7 @@ struct Wide {
     low: u64,
 }
 
-// p * 2^k.
+// p * 2^k. What a shift to the left drives past the 60 bits of a digit is the next digit.
 fn shifted(p: u64, k: u64) -> Wide
     requires { ⌜ (p < 2 ^ 36) × (k < 140) ⌝ }
     ensures { λ r. ⌜ (wideOf r ≡ p * 2 ^ k) × Tidy r × (r .high < 2 ^ 55) ⌝ }
@@ -171,6 +171,7 @@ pub fn motion(p: f32, a: u64, q: f32, b: u64, t: f32) -> i16
     if shift % 0x8000_0000 >= 0x4680_0000 {
         return held(shift >= 0x8000_0000, 32768);
     }
+    // what is added, and what is taken away: with the point itself, 1.0 times a
     let row = f32::to_bits(p);
     let across = f32::to_bits(q);
     let gain = shares(row, a, across, b, shift, false);

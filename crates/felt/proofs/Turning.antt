@@ -2,6 +2,7 @@
 use mathlib.Core.Path.{_≡_, refl, _∙_}
 use mathlib.Core.Bool.{true, false, _&&_}
 use Prim.Native.Nat.{ℕ, _+_, _-_, _^_, _≤_}
+use native.Mathlib.Omega.{arith}
 use lib.Dec.{T}
 use lib.IntN.{ℤ, pos, negsuc, subℕ}
 use lib.Ieee.{Float, binary32, round, neg, fits}
@@ -20,12 +21,12 @@ use Rattle.pose.specs.Pose.{isPose, affineFromThetaTxTy, affineMatrix, posedMat
 use Rattle.pose.proofs.Tests.{pose-theta, pose-shifted}
 use Rattle.pose.specs.declared.Answer.the-variants.{Posed}
 use Rattle.middle.specs.Motion.{motionOf}
-use Rattle.middle.specs.Still.{keepingOf}
-use Rattle.middle.proofs.Still.{keeping-finite, kept}
+use Rattle.felt.specs.Still.{keepingOf}
+use Rattle.felt.proofs.Still.{keeping-finite, kept}
 use Rattle.driver.specs.Pins.{pinOf, finiteOf, posedOf, pinsOf}
-use Rattle.driver.specs.Felt.{TurnInPlace}
+use Rattle.felt.specs.Felt.{TurnInPlace}
 use Rattle.driver.proofs.Entries.{cosine-within, sine-within}
 use Rattle.driver.proofs.Sides.{side-bounds, of-pose}
 
 -- ---- cosine and sine are f32
 
@@ -88,11 +89,11 @@ module _ (theta rho : Float) (w h : ℕ) (P : isPose theta 0f 0f ≡ true) (W : 
 
   across : motionOf (cosOf theta) (w - 1) minus (h - 1) tx ≡ pos 0
   unfolding tx
-  across = kept (cosOf theta) (w - 1) minus (h - 1) (cosine-fits theta) minus-fits (cosine-within theta turn) minus-within a-le b-le
+  across = kept (cosOf theta) (w - 1) minus (h - 1) (cosine-fits theta) minus-fits (cosine-within theta turn) minus-within (omega (arith, a-le)) (omega (arith, b-le))
 
   along : motionOf (cosOf theta) (h - 1) (sinOf theta) (w - 1) ty ≡ pos 0
   unfolding ty
-  along = kept (cosOf theta) (h - 1) (sinOf theta) (w - 1) (cosine-fits theta) (sine-fits theta) (cosine-within theta turn) (sine-within theta turn) b-le a-le
+  along = kept (cosOf theta) (h - 1) (sinOf theta) (w - 1) (cosine-fits theta) (sine-fits theta) (cosine-within theta turn) (sine-within theta turn) (omega (arith, b-le)) (omega (arith, a-le))
 
   still : posedOf theta tx ty (w - 1) (h - 1) ≡ record { dx = pos 0; dy = pos 0; turn = pinOf 8192 theta }
   unfolding posedOf finiteOf affineMatrix affineFromThetaTxTy minus

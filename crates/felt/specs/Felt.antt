@@ -10,8 +10,8 @@ use Rattle.lists.specs.Premises.{isSide}
 use Rattle.floats.specs.F32.{0f}
 use Rattle.pose.specs.Pose.{isPose, affineMatrix}
 use Rattle.pose.specs.declared.Answer.the-variants.{Posed}
-use Rattle.middle.specs.Still.{keepingOf}
+use Rattle.felt.specs.Still.{keepingOf}
 use Rattle.driver.specs.Pins.{pinOf, pinsOf}
 
 -- A TURN ABOUT THE MIDDLE of a frame, by any theta in -2..2: its shift is worked out exactly from the matrix's entries and rounded once, to f32.
 -- Then dx and dy are 0, and turn tells of it

@@ -29,12 +29,12 @@ use Rattle.pose.proofs.Tests.{pose-theta, pose-tx, pose-ty}
 use Rattle.middle.specs.Held.{nearestCapped, differenceOf}
 use Rattle.middle.specs.Motion.{shareOf, imageOf, motionOf}
 use Rattle.middle.proofs.Nearest.{back, ahead}
-use Rattle.middle.proofs.Still.{small-zero}
+use Rattle.felt.proofs.Still.{small-zero}
 use Rattle.middle.proofs.Terms.{own-share, other-share}
 use Rattle.driver.specs.Pins.{pinOf, finiteOf, posedOf}
-use Rattle.driver.specs.Felt.{ShiftAsBefore, OnePixelAsBefore}
+use Rattle.felt.specs.Felt.{ShiftAsBefore, OnePixelAsBefore}
 use Rattle.driver.proofs.Scaled.{nearest-same}
 use Rattle.driver.proofs.Sides.{of-pose}
 
 -- ---- what is added and what is taken away differ by one number
 

@@ -17,11 +17,11 @@ use Rattle.floats.specs.Units.{signOf}
 use Rattle.floats.proofs.Values.{value-finite, value-sign}
 use Rattle.floats.proofs.Patterns.{lt-or-le, value-units}
 use Rattle.floats.proofs.Nearest.{RoundedTo, rounded-to}
 use Rattle.middle.specs.Held.{cappedOf, nearestCapped, differenceOf}
 use Rattle.middle.specs.Motion.{shareOf, imageOf, motionOf}
-use Rattle.middle.specs.Still.{StillExactly, keepingOf, KeptInPlace}
+use Rattle.felt.specs.Still.{StillExactly, keepingOf, KeptInPlace}
 use Rattle.middle.proofs.Nearest.{back, ahead}
 use Rattle.middle.proofs.Terms.{share-le, own-share, other-share}
 
 -- ---- 0 is what is nearest to less than a half, and to nothing else
 
@@ -177,4 +177,4 @@ module _ (p : Float) (a : ℕ) (q : Float) (b : ℕ) (P : T (fits binary32 p)) (
   kept-in-place = by-sums (λ r. motionOf p a q b r ≡ pos 0) forward backward
 
 pub kept : KeptInPlace
-kept p a q b P Q p-le q-le A B = kept-in-place p a q b P Q p-le q-le A B
+kept p a q b P Q p-le q-le A B = kept-in-place p a q b P Q p-le q-le (omega (arith, A)) (omega (arith, B))

@@ -1,0 +1,3 @@
+pub mod Still
+pub mod Turning
+pub mod Shifting
