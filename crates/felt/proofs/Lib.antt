@@ -1,3 +1,4 @@
 pub mod Still
+pub mod Posed
 pub mod Turning
 pub mod Shifting

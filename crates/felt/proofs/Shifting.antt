@@ -1,7 +1,7 @@
 -- Where the turn does not move the middle, dx and dy are those of document 01. Assumes nothing.
 use mathlib.Core.Path.{_≡_, refl, sym, ap, _∙_}
 use mathlib.Core.Logic.{inl, inr}
-use mathlib.Core.Bool.{Bool, true, false, _&&_}
+use mathlib.Core.Bool.{Bool, true, false}
 use Prim.Native.Nat.{ℕ, _+_, _-_, _*_, _^_, _<_}
 use native.Mathlib.Nat.{mul-assoc}
 use native.Mathlib.Omega.{arith}
@@ -9,29 +9,27 @@ use lib.Dec.{T}
 use lib.IntN.{pos}
 use lib.Pow.{pow-pos}
 use lib.Ieee.{Float, nan, inf, fin, binary32, up, down, round, mul, neg, fits, ofBits}
-use lib.Ieee.Bits.{is-true}
 use lib.Ieee.Exact.{HasValue}
 use lib.Ieee.Fits.{down-pos}
 use lib.Ieee.Scale.{finite}
 use Rattle.lists.specs.Marked.{pick}
 use Rattle.lists.specs.Premises.{isSide}
-use Rattle.lists.proofs.Cases.{pick-true}
 use Rattle.floats.specs.F32.{0f, 1f}
 use Rattle.floats.specs.Units.{unitsOf, signOf}
 use Rattle.floats.proofs.Patterns.{lt-or-le}
 use Rattle.floats.proofs.Units.{units-value}
-use Rattle.floats.proofs.Within.{within-finite}
 use Rattle.series.specs.Recurrence.{stepsOf}
 use Rattle.series.specs.Series.{zOf, over30Of, cosOf, sinOf}
-use Rattle.pose.specs.Pose.{isPose, affineFromThetaTxTy, affineMatrix, posedMatrix}
+use Rattle.pose.specs.Pose.{isPose}
 use Rattle.pose.specs.declared.Answer.the-variants.{Posed}
-use Rattle.pose.proofs.Tests.{pose-theta, pose-tx, pose-ty}
+use Rattle.pose.proofs.Tests.{pose-tx, pose-ty}
 use Rattle.middle.specs.Held.{nearestCapped, differenceOf}
 use Rattle.middle.specs.Motion.{shareOf, imageOf, motionOf}
 use Rattle.middle.proofs.Nearest.{back, ahead}
+use Rattle.felt.proofs.Posed.{by-entries}
 use Rattle.felt.proofs.Still.{small-zero}
 use Rattle.middle.proofs.Terms.{own-share, other-share}
-use Rattle.driver.specs.Pins.{pinOf, finiteOf, posedOf}
+use Rattle.driver.specs.Pins.{pinOf, posedOf}
 use Rattle.felt.specs.Felt.{ShiftAsBefore, OnePixelAsBefore}
 use Rattle.driver.proofs.Scaled.{nearest-same}
 use Rattle.driver.proofs.Sides.{of-pose}
@@ -93,18 +91,10 @@ Even p a q b = shareOf false p * a + shareOf false q * b ≡ shareOf true p * a 
 
 module _ (theta tx ty : Float) (a b : ℕ) (X : T (fits binary32 tx)) (Y : T (fits binary32 ty)) (P : isPose theta tx ty ≡ true)
     (across : Even (cosOf theta) a (neg (sinOf theta)) b) (along : Even (cosOf theta) b (sinOf theta) a) where
-  all-finite : (finite theta && finite tx && finite ty) ≡ true
-  all-finite = rw (is-true (finite theta) (within-finite theta 2 1 (pose-theta theta tx ty P)), is-true (finite tx) (pose-tx theta tx ty P), is-true (finite ty) (pose-ty theta tx ty P))
-
-  matrix : posedMatrix theta tx ty ≡ affineMatrix theta tx ty
-  unfolding posedMatrix
-  matrix = pick-true _ _ _ P
-
   shifted : posedOf theta tx ty a b ≡ record { dx = pinOf 256 tx; dy = pinOf 256 ty; turn = pinOf 8192 theta }
-  unfolding posedOf finiteOf affineMatrix affineFromThetaTxTy
   shifted =
-      pick-true _ _ _ all-finite
-      ∙ rw (matrix, shift-alone (cosOf theta) a (neg (sinOf theta)) b tx X (pose-tx theta tx ty P) across, shift-alone (cosOf theta) b (sinOf theta) a ty Y (pose-ty theta tx ty P) along)
+      by-entries theta tx ty a b P
+      ∙ rw (shift-alone (cosOf theta) a (neg (sinOf theta)) b tx X (pose-tx theta tx ty P) across, shift-alone (cosOf theta) b (sinOf theta) a ty Y (pose-ty theta tx ty P) along)
 
 -- ---- a frame of one pixel
 

@@ -1,29 +1,28 @@
 -- Who only turns the grip feels no push. Assumes nothing.
 use mathlib.Core.Path.{_≡_, refl, _∙_}
-use mathlib.Core.Bool.{true, false, _&&_}
+use mathlib.Core.Bool.{true, false}
 use Prim.Native.Nat.{ℕ, _+_, _-_, _^_, _≤_}
 use native.Mathlib.Omega.{arith}
 use lib.Dec.{T}
 use lib.IntN.{ℤ, pos, negsuc, subℕ}
 use lib.Ieee.{Float, binary32, round, neg, fits}
-use lib.Ieee.Bits.{is-true}
 use lib.Ieee.Fits.{round-fits, mul-fits, neg-fits}
 use lib.Ieee.Scale.{finite}
 use Rattle.lists.specs.Premises.{isSide}
-use Rattle.lists.proofs.Cases.{pick-true}
 use Rattle.floats.specs.Bound.{Within}
 use Rattle.floats.specs.F32.{0f}
-use Rattle.floats.proofs.Within.{within-finite, within-neg}
+use Rattle.floats.proofs.Within.{within-neg}
 use Rattle.series.specs.Recurrence.{quotientOf, stepsOf}
 use Rattle.series.specs.Series.{divisorOf, zOf, over30Of, cosOf, sinOf}
 use Rattle.series.specs.declared.Series.the-variants.{Cosine, Sine}
-use Rattle.pose.specs.Pose.{isPose, affineFromThetaTxTy, affineMatrix, posedMatrix}
+use Rattle.pose.specs.Pose.{isPose, affineFromThetaTxTy, affineMatrix}
 use Rattle.pose.proofs.Tests.{pose-theta, pose-shifted}
 use Rattle.pose.specs.declared.Answer.the-variants.{Posed}
 use Rattle.middle.specs.Motion.{motionOf}
 use Rattle.felt.specs.Still.{keepingOf}
+use Rattle.felt.proofs.Posed.{by-entries}
 use Rattle.felt.proofs.Still.{keeping-finite, kept}
-use Rattle.driver.specs.Pins.{pinOf, finiteOf, posedOf, pinsOf}
+use Rattle.driver.specs.Pins.{pinOf, posedOf, pinsOf}
 use Rattle.felt.specs.Felt.{TurnInPlace}
 use Rattle.driver.proofs.Entries.{cosine-within, sine-within}
 use Rattle.driver.proofs.Sides.{side-bounds, of-pose}
@@ -80,13 +79,6 @@ module _ (theta rho : Float) (w h : ℕ) (P : isPose theta 0f 0f ≡ true) (W : 
   unfolding ty
   ty-finite = keeping-finite (cosOf theta) (h - 1) (sinOf theta) (w - 1) (cosine-fits theta) (sine-fits theta) (cosine-within theta turn) (sine-within theta turn) b-le a-le
 
-  matrix : posedMatrix theta tx ty ≡ affineMatrix theta tx ty
-  unfolding posedMatrix
-  matrix = pick-true _ _ _ (pose-shifted theta 0f 0f P tx ty tx-finite ty-finite)
-
-  all-finite : (finite theta && finite tx && finite ty) ≡ true
-  all-finite = rw (is-true (finite theta) (within-finite theta 2 1 turn), is-true (finite tx) tx-finite, is-true (finite ty) ty-finite)
-
   across : motionOf (cosOf theta) (w - 1) minus (h - 1) tx ≡ pos 0
   unfolding tx
   across = kept (cosOf theta) (w - 1) minus (h - 1) (cosine-fits theta) minus-fits (cosine-within theta turn) minus-within (omega (arith, a-le)) (omega (arith, b-le))
@@ -96,8 +88,8 @@ module _ (theta rho : Float) (w h : ℕ) (P : isPose theta 0f 0f ≡ true) (W : 
   along = kept (cosOf theta) (h - 1) (sinOf theta) (w - 1) (cosine-fits theta) (sine-fits theta) (cosine-within theta turn) (sine-within theta turn) (omega (arith, b-le)) (omega (arith, a-le))
 
   still : posedOf theta tx ty (w - 1) (h - 1) ≡ record { dx = pos 0; dy = pos 0; turn = pinOf 8192 theta }
-  unfolding posedOf finiteOf affineMatrix affineFromThetaTxTy minus
-  still = pick-true _ _ _ all-finite ∙ rw (matrix, across, along)
+  unfolding minus
+  still = by-entries theta tx ty (w - 1) (h - 1) (pose-shifted theta 0f 0f P tx ty tx-finite ty-finite) ∙ rw (across, along)
 
   in-place : pinsOf (Posed theta tx ty rho) w h ≡ record { dx = pos 0; dy = pos 0; turn = pinOf 8192 theta }
   in-place = of-pose (Posed theta tx ty rho) theta tx ty rho w h refl W H ∙ still
