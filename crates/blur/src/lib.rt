@@ -36,19 +36,12 @@ fn add_same(part: &mut [f32], dst: usize, src: usize, len: usize, weight: f32)
     }
 }
 
-// The smaller.
-fn least(a: usize, b: usize) -> usize
-    ensures { λ r. ⌜ r ≡ min a b ⌝ }
-{
-    if a < b { a } else { b }
-}
-
 // A tap of a row of w pixels that reads n pixels to the left: the first pixel is repeated.
 fn add_left(part: &mut [f32], dst: usize, src: usize, w: usize, n: usize, weight: f32)
     requires { ⌜ (src + w ≤ dst) × (1 ≤ w) × (dst + w ≤ length (now part)) ⌝ }
     ensures { λ _. ⌜ now (part .exit) ≡ addedOf (now (part .entry)) dst w (λ x. src + (x - n)) weight ⌝ }
 {
-    let m = least(n, w);
+    let m = numbers::least(n, w);
     add_same(part, dst, src, m, weight);
     add_run(part, dst + m, src, w - m, weight);
 }
@@ -58,7 +51,7 @@ fn add_right(part: &mut [f32], dst: usize, src: usize, w: usize, n: usize, weigh
     requires { ⌜ (src + w ≤ dst) × (1 ≤ w) × (dst + w ≤ length (now part)) ⌝ }
     ensures { λ _. ⌜ now (part .exit) ≡ addedOf (now (part .entry)) dst w (λ x. src + min (x + n) (w - 1)) weight ⌝ }
 {
-    let m = least(n, w);
+    let m = numbers::least(n, w);
     add_run(part, dst, src + m, w - m, weight);
     add_same(part, dst + (w - m), src + (w - 1), m, weight);
 }
@@ -78,7 +71,7 @@ fn held(ksize: usize, n: usize, p: usize, k: usize) -> usize
     if p + k < radius {
         return 0;
     }
-    least(p + k - radius, n - 1)
+    numbers::least(p + k - radius, n - 1)
 }
 
 // The tap k of the row y, from the first image of the part, is added to the w numbers from `dst` on.

@@ -272,6 +272,30 @@ module _ {A : Type 0} (n i : ℕ) (xs : List A) (ts : List (ℕ × (ℕ → A)))
       ∙ runs-more 1 n i few xs (singles ts) lo (spaced-apart ts n lo (length xs) apart)
       ∙ sym (fills-are xs ts (i + 1))
 
+-- the runs from their place m on
+abbrev pub further : {A : Type 0} → ℕ → List (ℕ × (ℕ → A)) → List (ℕ × (ℕ → A))
+further m [] = []
+further m (t ∷ ts) = (t .0 + m, λ i. t .1 (m + i)) ∷ further m ts
+
+-- what is put before every run may as well have been put first
+under-fills : {A : Type 0} (n i : ℕ) → i ≤ n → (xs : List A) (ts : List (ℕ × (ℕ → A))) (lo b : ℕ) (l : List A) → Spaced ts n lo (length xs) → b + length l ≤ lo → put (fills xs ts i) b l ≡ fills (put xs b l) ts i
+under-fills {A} n i few xs ts lo b l h p =
+    ap (λ (z : List A). put z b l) (fills-are xs ts i) ∙ under-runs 1 n i few xs (singles ts) lo b l (spaced-apart ts n lo (length xs) h) p ∙ sym (fills-are (put xs b l) ts i)
+
+-- THE LAW: m places of each run, then k more
+pub fills-join : {A : Type 0} (n m k : ℕ) → m + k ≤ n → (xs : List A) (ts : List (ℕ × (ℕ → A))) (lo : ℕ) → Spaced ts n lo (length xs) → fills (fills xs ts m) (further m ts) k ≡ fills xs ts (m + k)
+fills-join n m k few xs [] lo h = refl
+fills-join {A} n m k few xs (t ∷ ts) lo h =
+    let a = t .0 in
+    let f = t .1 in
+    let q = spaced-le ts n (a + n) (length xs) (h .1) in
+    let e = length-fill xs a f m (omega arith) in
+    let e' = length-fill xs a f (m + k) (omega arith) in
+    let l : length (tab k (λ i. f (m + i))) ≡ k = length-tab k (λ i. f (m + i)) in
+    ap (λ (z : List A). fills z (further m ts) k) (under-fills n m (omega arith) (put xs a (tab m f)) ts (a + n) (a + m) (tab k (λ i. f (m + i))) (rw e (h .1)) (omega arith))
+    ∙ ap (λ (z : List A). fills (fills z ts m) (further m ts) k) (fill-join xs a m k f (λ i. f (m + i)) (omega arith) (λ i p. refl))
+    ∙ fills-join n m k few (put xs a (tab (m + k) f)) ts (a + n) (rw e' (h .1))
+
 -- ---- a run that is filled again, and read back
 module _ {A : Type 0} (xs : List A) (a n : ℕ) (f : ℕ → A) (fits : a + n ≤ length xs) where
   pub fill-again : (g : ℕ → A) → put (put xs a (tab n f)) a (tab n g) ≡ put xs a (tab n g)

@@ -1,12 +1,12 @@
 -- Folds over marked places: only the marks and what stands at marked places count. Assumes nothing.
-use Prim.Native.Nat.{ℕ, zero, suc, _+_, _≤_, _<_}
+use Prim.Native.Nat.{ℕ, zero, suc, _+_, _-_, _≤_, _<_}
 use mathlib.Core.Path.{_≡_, refl, sym, ap, _∙_, subst}
 use mathlib.Core.Bool.{Bool, true, false, true≢false}
 use mathlib.Core.Logic.{_⊎_, inl, inr}
 use native.Mathlib.Nat.{eq-or-lt-of-le, le-of-suc-le-suc}
 use native.Mathlib.Numerals.{add-one}
 use native.Mathlib.Omega.{arith}
-use Rattle.lists.specs.Marked.{pick, overMarked, countMarked}
+use Rattle.lists.specs.Marked.{pick, overMarked, overRange, countMarked}
 use Rattle.lists.proofs.Cases.{pick-true, pick-false, pick-agree, pick-part}
 
 module _ {S : Type 0} (m : ℕ → Bool) (step : S → ℕ → S) (s : S) where
@@ -38,6 +38,43 @@ module _ {S : Type 0} (m : ℕ → Bool) (step : S → ℕ → S) (s : S) where
     where
       next : (a k : ℕ) → a + suc k ≡ a + k + 1
       next a k = omega arith
+
+  -- places that are all marked, from a on, are gone through one by one
+  pub over-full : (a k : ℕ) → ((i : ℕ) → a ≤ i → i < a + k → m i ≡ true) → overMarked m step s (a + k) ≡ overRange step (overMarked m step s a) a k
+  unfolding overRange
+  over-full a zero e = ap (overMarked m step s) (nil a)
+    where
+      nil : (a : ℕ) → a + 0 ≡ a
+      nil a = omega arith
+  over-full a (suc k) e =
+      ap (overMarked m step s) (next a k)
+      ∙ over-marked (a + k) (e (a + k) (omega arith) (omega arith))
+      ∙ ap (λ (t : S). step t (a + k)) (over-full a k (λ i h l. e i h (omega arith)))
+    where
+      next : (a k : ℕ) → a + suc k ≡ a + k + 1
+      next a k = omega arith
+
+-- ---- a range, place by place: the loop from a on is at the place i
+module _ {S : Type 0} (step : S → ℕ → S) (s : S) (a : ℕ) where
+  pub range-none : s ≡ overRange step s a (a - a)
+  unfolding overRange
+  range-none = ap (overRange step s a) (sym (nil a))
+    where
+      nil : (a : ℕ) → a - a ≡ 0
+      nil a = omega arith
+
+  pub range-turn : (i : ℕ) (t : S) → a ≤ i → t ≡ overRange step s a (i - a) → step t i ≡ overRange step s a (i + 1 - a)
+  unfolding overRange
+  range-turn i t h e =
+      let p : a + (i - a) ≡ i = omega arith in
+      let q : i + 1 - a ≡ suc (i - a) = omega arith in
+      ap (λ (u : S). step u i) e ∙ ap (step (overRange step s a (i - a))) (sym p) ∙ ap (overRange step s a) (sym q)
+
+  -- steps that agree there
+  pub range-agree : (step′ : S → ℕ → S) (k : ℕ) → ((t : S) (i : ℕ) → a ≤ i → i < a + k → step t i ≡ step′ t i) → overRange step s a k ≡ overRange step′ s a k
+  unfolding overRange
+  range-agree step′ zero e = refl
+  range-agree step′ (suc k) e = e _ (a + k) (omega arith) (omega arith) ∙ ap (λ (t : S). step′ t (a + k)) (range-agree step′ k (λ t i h l. e t i h (omega arith)))
 
 -- THE LAW: the same marks, and steps that agree at marked places, give the same fold
 pub over-agree : {S : Type 0} (m m' : ℕ → Bool) (step step' : S → ℕ → S) (s : S) (n : ℕ) → ((i : ℕ) → i < n → m i ≡ m' i) → ((t : S) (i : ℕ) → i < n → m i ≡ true → step t i ≡ step' t i) →

@@ -6,6 +6,7 @@ use mathlib.Core.List.{List}
 use lib.Dec.{ltb, leb}
 use lib.ListN.{length, getD}
 use lib.Ieee.{Float}
+use Rattle.lists.specs.Marked.{wordsFor}
 
 -- sides in range: from 1 to 4,096
 pub record InRange (w h : ℕ) : Type 0 where
@@ -23,16 +24,17 @@ pub record OddFilter (ksize : ℕ) : Type 0 where
   pub odd : ksize % 2 ≡ 1
   pub most : ksize ≤ 31
 
--- the memory that a call is lent for n pixels: twelve images, and a mark for each pixel
+-- the memory that a call is lent for n pixels: twelve images, and words for as many marks
 pub record Lent (n : ℕ) (work : List Float) (marks : List ℕ) : Type 0 where
   pub images : 12 * n ≤ length work
-  pub places : n ≤ length marks
+  pub places : wordsFor n ≤ length marks
 
--- scratch for the places and weights of a row of w pixels
-pub record RowScratch (w : ℕ) (spots : List ℕ) (across down : List Float) : Type 0 where
-  pub spots-fit : w ≤ length spots
-  pub across-fit : w ≤ length across
-  pub down-fit : w ≤ length down
+-- scratch for the places, weights and flags of k pixels
+pub record Scratch (k : ℕ) (spots : List ℕ) (across down : List Float) (flags : List ℕ) : Type 0 where
+  pub spots-fit : k ≤ length spots
+  pub across-fit : k ≤ length across
+  pub down-fit : k ≤ length down
+  pub flags-fit : k ≤ length flags
 
 -- what a slice of bytes holds
 abbrev pub AreBytes : List ℕ → Type 0

@@ -1,13 +1,20 @@
 // Small helpers on f32 and whole numbers. Each gives exactly what its definition in specs/Numbers.antt says, for
 // every input; a whole number becomes an f32 only up to 2^24, below which nothing is lost.
 ghost use mathlib.Core.Path.{_≡_};
-ghost use Prim.Native.Nat.{_^_, _≤_};
+ghost use Prim.Native.Nat.{_^_, _≤_, min};
 ghost use lib.IntN.{pos};
 ghost use lib.Ieee as Ieee;
 ghost use lib.Ieee.{binary32};
 ghost use lib.Ieee.Scale.{finite};
 ghost use Rattle.numbers.specs.Numbers.{absOf, floorOf, nearestOf, roundOf};
 ghost use Rattle.floats.specs.Bound.{UpTo};
+
+// The smaller.
+pub fn least(a: usize, b: usize) -> usize
+    ensures { λ r. ⌜ r ≡ min a b ⌝ }
+{
+    if a < b { a } else { b }
+}
 
 // n as an f32, exactly.
 pub fn to_f32(n: usize) -> f32

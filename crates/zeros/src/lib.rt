@@ -1,4 +1,4 @@
-// Lent memory filled with zeros: floats with +0, marks with 0. What stands before and after stays as it was.
+// Lent memory filled with zeros: floats with +0, words with 0. What stands before and after stays as it was.
 ghost use mathlib.Core.Path.{_≡_};
 ghost use Prim.Native.Nat.{_+_, _≤_};
 ghost use lib.ListN.{length};
@@ -17,14 +17,14 @@ pub fn fill_floats(part: &mut [f32], dst: usize, len: usize)
     }
 }
 
-// The first `len` marks become 0.
-pub fn fill_marks(marks: &mut [u8], len: usize)
-    requires { ⌜ len ≤ length (now marks) ⌝ }
-    ensures { λ _. ⌜ now (marks .exit) ≡ put (now (marks .entry)) 0 (tab len (λ _. 0)) ⌝ }
+// The first `len` words become 0.
+pub fn fill_words(words: &mut [u64], len: usize)
+    requires { ⌜ len ≤ length (now words) ⌝ }
+    ensures { λ _. ⌜ now (words .exit) ≡ put (now (words .entry)) 0 (tab len (λ _. 0)) ⌝ }
 {
     let mut i = 0;
     while i < len {
-        marks[i] = 0;
+        words[i] = 0;
         i += 1;
     }
 }

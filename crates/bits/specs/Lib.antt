@@ -1,0 +1,4 @@
+pub mod Words
+pub mod Stretches
+pub mod Packing
+pub mod Equal
