@@ -6,7 +6,7 @@ use lib.Dec.{eqb}
 use lib.ListN.{length}
 use lib.Ieee.{Float}
 use Rattle.lists.specs.Lists.{tab, put}
-use Rattle.lists.specs.Marked.{pick}
+use Rattle.lists.specs.Marked.{pick, wordsFor}
 use Rattle.floats.specs.F32.{_⊘_, f32, 0f}
 use Rattle.settings.specs.Settings.{edgeOf}
 use Rattle.settings.specs.Sides.{resizedOf}
@@ -38,12 +38,12 @@ alignedOf template input w h cfg work marks =
     let s = resizedOf (edgeOf cfg) w h in
     pick (eqb number 0) (runOf template input w h (s .w) (s .h) cfg) (record { passes = 0; answer = Refused number })
 
--- the work and the marks afterwards: unchanged where a check failed; else the first 12n floats are +0 and the first n marks 0
+-- the work and the marks afterwards: unchanged where a check failed; else the first 12n floats are +0 and the words of the first n marks 0, whole
 unfoldable pub workAfter : ℕ → ℕ → List Float → List Float
 workAfter number n xs = pick (eqb number 0) (put xs 0 (tab (12 * n) (λ _. 0f))) xs
 
 unfoldable pub marksAfter : ℕ → ℕ → List ℕ → List ℕ
-marksAfter number n ms = pick (eqb number 0) (put ms 0 (tab n (λ _. 0))) ms
+marksAfter number n ms = pick (eqb number 0) (put ms 0 (tab (wordsFor n) (λ _. 0))) ms
 
 -- both, from before to after a call: `number` is that of the check that refuses, 0 where none does, and n counts the pixels
 abbrev pub Leaves : ℕ → ℕ → List Float → List Float → List ℕ → List ℕ → Type 0

@@ -2,8 +2,9 @@
 use Prim.Native.Nat.{ℕ, _*_, _%_, _≤_}
 use mathlib.Core.Path.{_≡_, ap, _∙_}
 use native.Mathlib.Omega.{arith}
-use lib.Dec.{ltb, eqb, lit≤}
+use lib.Dec.{lit≤}
 use borrow.Author.Tests.{ltb-false, eqb-true, eqb-false}
+use Rattle.lists.specs.Marked.{wordsFor}
 use Rattle.lists.specs.Premises.{InRange, OddFilter}
 use Rattle.lists.proofs.Cases.{passed, passed-by}
 use Rattle.settings.specs.Settings.{edgeOf}
@@ -20,7 +21,7 @@ pub record Past (template input w h : ℕ) (cfg : EccConfig) (work marks : ℕ) 
   pub filter : OddFilter (cfg .«gauss_filt_size»)
   pub passes-most : cfg .«max_iter» ≤ 1000
   pub work-fits : 12 * sizeOf cfg w h ≤ work
-  pub marks-fit : sizeOf cfg w h ≤ marks
+  pub marks-fit : wordsFor (sizeOf cfg w h) ≤ marks
 
 pub past : (template input w h : ℕ) (cfg : EccConfig) (work marks : ℕ) → checkOf template input w h cfg work marks ≡ 0 → Past template input w h cfg work marks
 unfolding checkOf limitsOf roomOf

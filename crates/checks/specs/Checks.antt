@@ -1,7 +1,7 @@
 -- The alignment's own checks, in document 01's order. Definitions only.
 use Prim.Native.Nat.{ℕ, _*_, _%_}
 use lib.Dec.{ltb, eqb}
-use Rattle.lists.specs.Marked.{pick}
+use Rattle.lists.specs.Marked.{pick, wordsFor}
 use Rattle.settings.specs.Settings.{edgeOf}
 use Rattle.settings.specs.Sides.{resizedOf}
 use Rattle.settings.specs.declared.EccConfig.{EccConfig}
@@ -10,9 +10,9 @@ use Rattle.settings.specs.declared.EccConfig.{EccConfig}
 unfoldable pub sizeOf : EccConfig → ℕ → ℕ → ℕ
 sizeOf cfg w h = let s = resizedOf (edgeOf cfg) w h in s .w * s .h
 
--- 4: work or marks too short. `work` and `marks` are their lengths, here and below
+-- 4: work or marks too short: 12n floats, and words for n marks. `work` and `marks` are their lengths, here and below
 unfoldable pub roomOf : EccConfig → ℕ → ℕ → ℕ → ℕ → ℕ
-roomOf cfg w h work marks = pick (ltb work (12 * sizeOf cfg w h)) 4 (pick (ltb marks (sizeOf cfg w h)) 4 0)
+roomOf cfg w h work marks = pick (ltb work (12 * sizeOf cfg w h)) 4 (pick (ltb marks (wordsFor (sizeOf cfg w h))) 4 0)
 
 -- filter 0 or even: 1; then filter above 31 or max_iter above 1,000: 3; then the room
 unfoldable pub limitsOf : EccConfig → ℕ → ℕ → ℕ → ℕ → ℕ

@@ -14,7 +14,7 @@ fn size(cfg: EccConfig, w: usize, h: usize) -> usize
     s.w * s.h
 }
 
-// The room that sides and settings in range need: 12n floats and n marks.
+// The room that sides and settings in range need: 12n floats, and words for n marks, sixty-four to a word.
 fn room(cfg: EccConfig, w: usize, h: usize, work: usize, marks: usize) -> u8
     requires { ⌜ InRange w h ⌝ }
     ensures { λ r. ⌜ r ≡ roomOf cfg w h work marks ⌝ }
@@ -23,7 +23,7 @@ fn room(cfg: EccConfig, w: usize, h: usize, work: usize, marks: usize) -> u8
     if work < 12 * n {
         return 4;
     }
-    if marks < n {
+    if marks < (n + 63) / 64 {
         return 4;
     }
     0

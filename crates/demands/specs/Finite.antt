@@ -7,6 +7,7 @@ use lib.Dec.{T, leb, eqb}
 use lib.ListN.{length, drop, replicate}
 use lib.Ieee.{Float, neg, le}
 use lib.Ieee.Scale.{finite}
+use Rattle.lists.specs.Marked.{wordsFor}
 use Rattle.floats.specs.F32.{0f, 2f}
 use Rattle.pose.specs.Pose.{numberOf}
 use Rattle.pose.specs.declared.Answer.{Answer}
@@ -32,6 +33,6 @@ pub record CallEnded (n most : ℕ) (o : Outcome) (work work′ : List Float) (m
   -- none with 1 to 4
   pub few : o .passes ≤ most
   pub no-pass : clears (numberOf (o .answer)) ≡ false → o .passes ≡ 0
-  -- with 0 and 5 to 10 the first 12n floats are +0 and the first n marks 0; with 1 to 4 both are as they were
-  pub cleared : clears (numberOf (o .answer)) ≡ true → Cleared (12 * n) 0f work work′ × Cleared n 0 marks marks′
+  -- with 0 and 5 to 10 the first 12n floats are +0 and the words of the first n marks 0, whole; with 1 to 4 both are as they were
+  pub cleared : clears (numberOf (o .answer)) ≡ true → Cleared (12 * n) 0f work work′ × Cleared (wordsFor n) 0 marks marks′
   pub stays : clears (numberOf (o .answer)) ≡ false → (work′ ≡ work) × (marks′ ≡ marks)

@@ -1,31 +1,33 @@
--- The marks after the warp: the first w * h are the warp's, those past them stay. Assumes nothing.
+-- The words after the warp: they stand for the warp's marks, and those past them stay. Assumes nothing.
 use Prim.Native.Nat.{ℕ, _*_, _≤_}
 use mathlib.Core.Path.{_≡_, ap, _∙_}
 use mathlib.Core.List.{List}
 use native.Mathlib.Omega.{arith}
-use lib.ListN.{length, take}
+use lib.ListN.{length}
 use Rattle.lists.specs.Lists.{put}
-use Rattle.lists.proofs.Put.{length-put, drop-put, take-put-front}
+use Rattle.lists.specs.Marked.{wordsFor}
+use Rattle.lists.proofs.Put.{length-put, drop-put}
 use Rattle.marks.specs.Marks.{countOn}
+use Rattle.bits.specs.Words.{wordsOf, unpackedOf}
+use Rattle.bits.specs.Equal.{BytesBack}
+use Rattle.bits.proofs.Equal.{bytes-back, length-words-of}
 use Rattle.pose.specs.declared.Map.{Map}
 use Rattle.places.specs.Point.{marksOf}
+use Rattle.places.proofs.Sizes.{length-marks, mark-few}
 use Rattle.pass.specs.Kept.{KeptMarks}
-use Rattle.places.proofs.Sizes.{length-marks}
 
-module _ (map : Map) (w h : ℕ) (ms ms′ : List ℕ) (is-ms′ : ms′ ≡ put ms 0 (marksOf map w h)) where
-  pub front : take (w * h) ms′ ≡ marksOf map w h
-  front = rw is-ms′ (take-put-front ms _ (w * h) (length-marks map w h))
+module _ (map : Map) (w h : ℕ) (ws ws′ : List ℕ) (room : wordsFor (w * h) ≤ length ws) (is-ws′ : ws′ ≡ put ws 0 (wordsOf (marksOf map w h) (w * h))) where
+  pub front : unpackedOf ws′ (w * h) ≡ marksOf map w h
+  unfolding BytesBack
+  front = ap (λ (z : List ℕ). unpackedOf z (w * h)) is-ws′ ∙ bytes-back (marksOf map w h) ws (w * h) room (length-marks map w h) (mark-few map w h)
 
-  pub length-front : length (take (w * h) ms′) ≡ w * h
-  length-front = ap length front ∙ length-marks map w h
-
-  pub count-front : (found : ℕ) → found ≡ countOn (marksOf map w h) (w * h) → found ≡ countOn (take (w * h) ms′) (w * h)
+  pub count-front : (found : ℕ) → found ≡ countOn (marksOf map w h) (w * h) → found ≡ countOn (unpackedOf ws′ (w * h)) (w * h)
   count-front found e = rw front e
 
-  pub kept-marks : w * h ≤ length ms → KeptMarks (w * h) ms ms′
-  kept-marks fits =
-      let e = length-marks map w h in
-      rw is-ms′ (record {
-        rest = drop-put ms 0 (marksOf map w h) (omega arith) (w * h) (omega arith);
-        size = length-put ms 0 (marksOf map w h) (omega arith);
+  pub kept-marks : KeptMarks (w * h) ws ws′
+  kept-marks =
+      let e = length-words-of (marksOf map w h) (w * h) in
+      rw is-ws′ (record {
+        rest = drop-put ws 0 (wordsOf (marksOf map w h) (w * h)) (omega arith) (wordsFor (w * h)) (omega arith);
+        size = length-put ws 0 (wordsOf (marksOf map w h) (w * h)) (omega arith);
       })

@@ -3,23 +3,28 @@ use Prim.Native.Nat.{ℕ, _+_, _-_, _*_, _≤_, _<_}
 use mathlib.Core.Path.{_≡_, ap, _∙_}
 use mathlib.Core.List.{List, [], _∷_, _++_}
 use native.Mathlib.Omega.{arith}
-use lib.ListN.{length, take, drop}
+use lib.ListN.{length, take, drop, length-take, length-drop}
 use lib.Ieee.{Float}
 use Rattle.lists.specs.Lists.{image, setImage}
 use Rattle.lists.proofs.Fill.{row-in}
 use Rattle.lists.proofs.Images.{part-image}
-use Rattle.lists.proofs.Sets.{Sets, setAll, Fits, moved, part-sets}
+use Rattle.lists.proofs.Sets.{Sets, setAll, Fits, moved, image-later, part-sets}
 use Rattle.pose.specs.declared.Map.{Map}
 use Rattle.pose.specs.declared.Pose.{Pose}
 use Rattle.warp.specs.Warp.{warpOf}
-use Rattle.stats.specs.Stats.{centredOf, statsOf}
+use Rattle.stats.specs.Stats.{Centred}
 use Rattle.stats.specs.declared.Stats.{Stats}
 use Rattle.sums.specs.Sums.{steepOf}
 use Rattle.solve.specs.Solve.{solveOf}
+use Rattle.pass.specs.Kept.{CentredWork}
 use Rattle.solve.specs.declared.Step.{Step}
 use Rattle.sums.proofs.Rows.{length-steep}
 use Rattle.warp.proofs.Sizes.{length-warp}
-use Rattle.stats.proofs.Sizes.{length-centred}
+
+-- an image that lies within the list
+pub length-image : {A : Type 0} (n k : ℕ) (xs : List A) → k * n + n ≤ length xs → length (image n k xs) ≡ n
+unfolding image
+length-image n k xs h = simp (length-take, length-drop) (omega arith)
 
 module _ (n j : ℕ) (xs : List Float) where
   abbrev size : ℕ
@@ -56,20 +61,23 @@ module _ (ms : List ℕ) (n : ℕ) (xs : List Float) (fits : 12 * n ≤ length x
   abbrev from-five : List Float
   from-five = part n 5 xs
 
-  pub centre-back : (ys : List Float) → ys ≡ setImage n 5 (centredOf ms n (image n 0 from-five)) (setImage n 4 (centredOf ms n (image n 3 from-five)) from-five) →
-      whole n 5 xs ys ≡ setImage n 10 (centredOf ms n (image n 5 xs)) (setImage n 9 (centredOf ms n (image n 8 xs)) xs)
-  centre-back ys e =
+  pub centre-back : (ys : List Float) (s : Stats) → length ys ≡ length from-five → Centred ms n from-five ys s → CentredWork ms n xs (whole n 5 xs ys) s
+  centre-back ys s same o =
       let f : 5 * n + 6 * n ≤ length xs = omega arith in
-      back n 5 xs f ys
-      ((5, centredOf ms n (image n 5 xs)) ∷ ((4, centredOf ms n (image n 8 xs)) ∷ []))
-      (length-centred _ _ _, omega arith, (length-centred _ _ _, omega arith, tt))
-      (rw (read n 5 xs f 0 (omega arith), read n 5 xs f 3 (omega arith)) at e)
-
-  pub stats-back : (s : Stats) → s ≡ statsOf ms n (centredOf ms n (image n 3 from-five)) (centredOf ms n (image n 0 from-five)) →
-      s ≡ statsOf ms n (centredOf ms n (image n 8 xs)) (centredOf ms n (image n 5 xs))
-  stats-back s e =
-      let f : 5 * n + 6 * n ≤ length xs = omega arith in
-      rw (read n 5 xs f 0 (omega arith), read n 5 xs f 3 (omega arith)) at e
+      let size : 6 * n ≤ length ys = rw same (simp (length-take, length-drop) (omega arith)) in
+      let T = image n 4 ys in
+      let I = image n 5 ys in
+      let sets : Sets Float = (10, I) ∷ ((9, T) ∷ []) in
+      let fit : Fits n (length xs) sets = (length-image n 5 ys (omega arith), omega arith, (length-image n 4 ys (omega arith), omega arith, tt)) in
+      let is : whole n 5 xs ys ≡ setAll n sets xs = back n 5 xs f ys ((5, I) ∷ ((4, T) ∷ [])) (fit .0, omega arith, (fit .2 .0, omega arith, tt)) (o .rest) in
+      let i-is : image n 10 (whole n 5 xs ys) ≡ I = ap (image n 10) is ∙ image-later n xs [] (10, I) ((9, T) ∷ []) fit tt in
+      let t-is : image n 9 (whole n 5 xs ys) ≡ T = ap (image n 9) is ∙ image-later n xs ((10, I) ∷ []) (9, T) [] fit (omega arith, tt) in
+      record {
+        rest = rw (i-is, t-is) is;
+        template = λ i l m. rw t-is (rw (read n 5 xs f 3 (omega arith)) at (o .template i l m));
+        warped = λ i l m. rw i-is (rw (read n 5 xs f 0 (omega arith)) at (o .warped i l m));
+        answer = rw (read n 5 xs f 0 (omega arith), read n 5 xs f 3 (omega arith)) at (o .answer);
+      }
 
 module _ (ms : List ℕ) (w h : ℕ) (p : Pose) (s : Stats) (rho : Float) (xs : List Float) (fits : 12 * (w * h) ≤ length xs) where
   abbrev from-six : List Float

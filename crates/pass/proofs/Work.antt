@@ -1,12 +1,12 @@
 -- The work slice within a pass: after its warp, after its centring, and with j0 in it; what a pass reads there, and what stays. Assumes nothing.
 use Prim.Native.Nat.{ℕ, _*_, _≤_}
-use mathlib.Core.Path.{_≡_, ap, _∙_}
+use mathlib.Core.Path.{_≡_, sym, ap, _∙_, subst}
 use mathlib.Core.List.{List, [], _∷_}
 use native.Mathlib.Omega.{arith}
 use lib.ListN.{length}
 use lib.Ieee.{Float}
 use Rattle.lists.specs.Lists.{image, setImage}
-use Rattle.lists.proofs.Sets.{Sets, Fits, image-spared, image-later}
+use Rattle.lists.proofs.Sets.{Sets, setAll, Fits, image-spared, image-later}
 use Rattle.pose.specs.declared.Map.{Map}
 use Rattle.pose.specs.declared.Pose.{Pose}
 use Rattle.places.specs.Point.{marksOf}
@@ -17,10 +17,11 @@ use Rattle.sums.specs.Sums.{steepOf}
 use Rattle.solve.specs.Solve.{solveOf}
 use Rattle.solve.specs.declared.Step.{Step}
 use Rattle.pass.specs.Pass.{weighedOf}
-use Rattle.pass.specs.Kept.{Kept}
+use Rattle.pass.specs.Kept.{Kept, CentredWork}
 use Rattle.sums.proofs.Rows.{length-steep}
 use Rattle.warp.proofs.Sizes.{length-warp}
-use Rattle.stats.proofs.Sizes.{length-centred}
+use Rattle.solve.proofs.Agree.{solve-agree}
+use Rattle.pass.proofs.Parts.{length-image}
 use Rattle.pass.proofs.Stays.{kept-sets, kept-kept}
 
 -- ---- after the warp
@@ -54,7 +55,7 @@ module _ (map : Map) (w h : ℕ) (xs : List Float) (fits : 12 * (w * h) ≤ leng
     weighed-there ms e eps p last r q = rw (e, kept-warp .template, warped-input, warped-gx, warped-gy) at q
 
 -- ---- after the centring, and with j0
-module _ (ms : List ℕ) (w h : ℕ) (xs : List Float) (fits : 12 * (w * h) ≤ length xs) where
+module _ (ms : List ℕ) (w h : ℕ) (xs : List Float) (fits : 12 * (w * h) ≤ length xs) (ys : List Float) (same : length ys ≡ length xs) (s : Stats) (o : CentredWork ms (w * h) xs ys s) where
   abbrev tz : List Float
   tz = centredOf ms (w * h) (image (w * h) 8 xs)
 
@@ -62,35 +63,29 @@ module _ (ms : List ℕ) (w h : ℕ) (xs : List Float) (fits : 12 * (w * h) ≤ 
   iz = centredOf ms (w * h) (image (w * h) 5 xs)
 
   abbrev centres : Sets Float
-  centres = (10, iz) ∷ ((9, tz) ∷ [])
+  centres = (10, image (w * h) 10 ys) ∷ ((9, image (w * h) 9 ys) ∷ [])
 
   centres-fit : Fits (w * h) (length xs) centres
-  centres-fit = (length-centred _ _ _, omega arith, (length-centred _ _ _, omega arith, tt))
+  centres-fit = (length-image (w * h) 10 ys (omega arith), omega arith, (length-image (w * h) 9 ys (omega arith), omega arith, tt))
 
-  module _ (ys : List Float) (is-ys : ys ≡ setImage (w * h) 10 iz (setImage (w * h) 9 tz xs)) where
-    pub kept-centre : Kept (w * h) xs ys
-    kept-centre = rw is-ys (kept-sets (w * h) xs centres centres-fit (omega arith, omega arith, omega arith, (omega arith, omega arith, omega arith, tt)))
+  is-ys : ys ≡ setAll (w * h) centres xs
+  is-ys = o .rest
 
-    centred-image : image (w * h) 10 ys ≡ iz
-    centred-image = ap (image (w * h) 10) is-ys ∙ image-later (w * h) xs [] (10, iz) ((9, tz) ∷ []) centres-fit tt
+  pub kept-centre : Kept (w * h) xs ys
+  kept-centre = subst (Kept (w * h) xs) (sym is-ys) (kept-sets (w * h) xs centres centres-fit (omega arith, omega arith, omega arith, (omega arith, omega arith, omega arith, tt)))
 
-    centred-template : image (w * h) 9 ys ≡ tz
-    centred-template = ap (image (w * h) 9) is-ys ∙ image-later (w * h) xs ((10, iz) ∷ []) (9, tz) [] centres-fit (omega arith, tt)
+  gx-there : image (w * h) 6 ys ≡ image (w * h) 6 xs
+  gx-there = ap (image (w * h) 6) is-ys ∙ image-spared (w * h) xs 6 centres centres-fit (omega arith, (omega arith, tt))
 
-    gx-there : image (w * h) 6 ys ≡ image (w * h) 6 xs
-    gx-there = ap (image (w * h) 6) is-ys ∙ image-spared (w * h) xs 6 centres centres-fit (omega arith, (omega arith, tt))
+  gy-there : image (w * h) 7 ys ≡ image (w * h) 7 xs
+  gy-there = ap (image (w * h) 7) is-ys ∙ image-spared (w * h) xs 7 centres centres-fit (omega arith, (omega arith, tt))
 
-    gy-there : image (w * h) 7 ys ≡ image (w * h) 7 xs
-    gy-there = ap (image (w * h) 7) is-ys ∙ image-spared (w * h) xs 7 centres centres-fit (omega arith, (omega arith, tt))
+  -- the second half on the work after the centring: only marked pixels of the centred images count
+  pub solved-there : (p : Pose) (rho : Float) (r : Step) →
+      r ≡ solveOf ms (w * h) p (steepOf w h (p .theta) (image (w * h) 6 ys) (image (w * h) 7 ys)) (image (w * h) 6 ys) (image (w * h) 7 ys) (image (w * h) 9 ys) (image (w * h) 10 ys) s rho →
+      r ≡ solveOf ms (w * h) p (steepOf w h (p .theta) (image (w * h) 6 xs) (image (w * h) 7 xs)) (image (w * h) 6 xs) (image (w * h) 7 xs) tz iz s rho
+  solved-there p rho r q = rw (gx-there, gy-there) at q ∙ solve-agree ms (w * h) p _ _ _ _ _ _ _ s rho (o .template) (o .warped)
 
-    -- the second half on the work after the centring
-    pub solved-there : (p : Pose) (s : Stats) (rho : Float) (r : Step) →
-        r ≡ solveOf ms (w * h) p (steepOf w h (p .theta) (image (w * h) 6 ys) (image (w * h) 7 ys)) (image (w * h) 6 ys) (image (w * h) 7 ys) (image (w * h) 9 ys) (image (w * h) 10 ys) s rho →
-        r ≡ solveOf ms (w * h) p (steepOf w h (p .theta) (image (w * h) 6 xs) (image (w * h) 7 xs)) (image (w * h) 6 xs) (image (w * h) 7 xs) tz iz s rho
-    solved-there p s rho r q = rw (gx-there, gy-there, centred-template, centred-image) at q
-
-    pub kept-solve : (theta : Float) (zs : List Float) → zs ≡ setImage (w * h) 11 (steepOf w h theta (image (w * h) 6 ys) (image (w * h) 7 ys)) ys → Kept (w * h) xs zs
-    kept-solve theta zs e =
-        let k = kept-centre in
-        let l : 12 * (w * h) ≤ length ys = rw (k .size) fits in
-        kept-kept k (rw e (kept-sets (w * h) ys ((11, steepOf w h theta (image (w * h) 6 ys) (image (w * h) 7 ys)) ∷ []) (length-steep _ _ _ _ _, omega arith, tt) (omega arith, omega arith, omega arith, tt)))
+  pub kept-solve : (theta : Float) (zs : List Float) → zs ≡ setImage (w * h) 11 (steepOf w h theta (image (w * h) 6 ys) (image (w * h) 7 ys)) ys → Kept (w * h) xs zs
+  kept-solve theta zs e =
+      kept-kept kept-centre (rw e (kept-sets (w * h) ys ((11, steepOf w h theta (image (w * h) 6 ys) (image (w * h) 7 ys)) ∷ []) (length-steep _ _ _ _ _, omega arith, tt) (omega arith, omega arith, omega arith, tt)))

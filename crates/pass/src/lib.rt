@@ -4,55 +4,38 @@
 // leaves them as they are. Images 5 to 7 get the warped ones, 9 and 10 the centred ones, 11 j0.
 ghost use mathlib.Core.Path.{_≡_};
 ghost use Prim.Native.Nat.{_*_, _≤_};
-ghost use lib.ListN.{length};
 ghost use Rattle.lists.specs.Lists.{put, image, setImage};
-ghost use Rattle.lists.specs.Premises.{InRange, Lent, RowScratch};
+ghost use Rattle.lists.specs.Premises.{InRange, Lent};
 ghost use Rattle.marks.specs.Marks.{countOn};
+ghost use Rattle.bits.specs.Words.{wordsOf, unpackedOf};
 ghost use Rattle.floats.specs.Bound.{Within};
 ghost use Rattle.places.specs.Point.{marksOf};
 ghost use Rattle.warp.specs.Warp.{warpOf};
-ghost use Rattle.stats.specs.Stats.{centredOf, statsOf};
 ghost use Rattle.sums.specs.Sums.{steepOf};
 ghost use Rattle.solve.specs.Solve.{solveOf};
 ghost use Rattle.pass.specs.Pass.{passOf, weighedOf};
-ghost use Rattle.pass.specs.Kept.{Kept, KeptMarks};
+ghost use Rattle.pass.specs.Kept.{Kept, KeptMarks, CentredWork};
 use solve::Step;
 use verdict::Verdict;
 
 // The warp within the work: images 2 to 4 into 5 to 7.
-fn warp_work(
-    work: &mut [f32],
-    marks: &mut [u8],
-    map: pose::Map,
-    w: usize,
-    h: usize,
-    spots: &mut [u32],
-    across: &mut [f32],
-    down: &mut [f32],
-) -> usize
-    requires { ⌜ InRange w h × Lent (w * h) (now work) (now marks) × RowScratch w (now spots) (now across) (now down) ⌝ }
+fn warp_work(work: &mut [f32], marks: &mut [u64], map: pose::Map, w: usize, h: usize) -> usize
+    requires { ⌜ InRange w h × Lent (w * h) (now work) (now marks) ⌝ }
     ensures { λ r. ⌜
         (let n = w * h in let xs = now (work .entry) in
         now (work .exit) ≡ setImage n 7 (warpOf (image n 4 xs) map w h)
         (setImage n 6 (warpOf (image n 3 xs) map w h) (setImage n 5 (warpOf (image n 2 xs) map w h) xs)))
         ⌝ }
-    ensures { λ r. ⌜ (now (marks .exit) ≡ put (now (marks .entry)) 0 (marksOf map w h)) × (r ≡ countOn (marksOf map w h) (w * h)) ⌝ }
+    ensures { λ r. ⌜ (now (marks .exit) ≡ put (now (marks .entry)) 0 (wordsOf (marksOf map w h) (w * h))) × (r ≡ countOn (marksOf map w h) (w * h)) ⌝ }
 {
     let n = w * h;
-    warp::warp_three_inverse_map(&mut work[2 * n..], marks, map, w, h, spots, across, down)
+    warp::warp_three_inverse_map(&mut work[2 * n..], marks, map, w, h)
 }
 
-// The centred images within the work: of 8 and 5 into 9 and 10.
-fn centre_work(work: &mut [f32], marks: &[u8], n: usize, found: usize) -> stats::Stats
-    requires { ⌜ (n ≤ 16777216) × (found ≡ countOn (now marks) n) × Lent n (now work) (now marks) ⌝ }
-    ensures { λ r. ⌜
-        (let ms = now (marks .entry) in let xs = now (work .entry) in
-        now (work .exit) ≡ setImage n 10 (centredOf ms n (image n 5 xs)) (setImage n 9 (centredOf ms n (image n 8 xs)) xs))
-        ⌝ }
-    ensures { λ r. ⌜
-        (let ms = now (marks .entry) in let xs = now (work .entry) in
-        r ≡ statsOf ms n (centredOf ms n (image n 8 xs)) (centredOf ms n (image n 5 xs)))
-        ⌝ }
+// The centred images within the work: of 8 and 5 into 9 and 10, at the marked pixels.
+fn centre_work(work: &mut [f32], marks: &[u64], n: usize, found: usize) -> stats::Stats
+    requires { ⌜ (n ≤ 16777216) × (found ≡ countOn (unpackedOf (now marks) n) n) × Lent n (now work) (now marks) ⌝ }
+    ensures { λ r. ⌜ CentredWork (unpackedOf (now (marks .entry)) n) n (now (work .entry)) (now (work .exit)) r ⌝ }
 {
     stats::centered_stats_in_place(&mut work[5 * n..], marks, n, found)
 }
@@ -60,7 +43,7 @@ fn centre_work(work: &mut [f32], marks: &[u8], n: usize, found: usize) -> stats:
 // The second half of a pass within the work: j0 into 11.
 fn solve_work(
     work: &mut [f32],
-    marks: &[u8],
+    marks: &[u64],
     w: usize,
     h: usize,
     at: pose::Pose,
@@ -74,7 +57,7 @@ fn solve_work(
         ⌝ }
     ensures { λ r. ⌜
         (let n = w * h in let xs = now (work .entry) in
-        r ≡ solveOf (now (marks .entry)) n at (steepOf w h (at .theta) (image n 6 xs) (image n 7 xs)) (image n 6 xs) (image n 7 xs)
+        r ≡ solveOf (unpackedOf (now (marks .entry)) n) n at (steepOf w h (at .theta) (image n 6 xs) (image n 7 xs)) (image n 6 xs) (image n 7 xs)
         (image n 9 xs) (image n 10 xs) s rho)
         ⌝ }
 {
@@ -82,10 +65,10 @@ fn solve_work(
     solve::solve(&mut work[6 * n..], marks, w, h, at, s, rho)
 }
 
-// A pass after its warp: centring, the tests 6 and 7, the stop, the second half. `marks` are the pass's marks and no more.
+// A pass after its warp: centring, the tests 6 and 7, the stop, the second half.
 fn weigh(
     work: &mut [f32],
-    marks: &[u8],
+    marks: &[u64],
     w: usize,
     h: usize,
     eps: f32,
@@ -93,10 +76,10 @@ fn weigh(
     last: f32,
     found: usize,
 ) -> Step
-    requires { ⌜ InRange w h × Lent (w * h) (now work) (now marks) × (found ≡ countOn (now marks) (w * h)) × Within (at .theta) 2 1 ⌝ }
+    requires { ⌜ InRange w h × Lent (w * h) (now work) (now marks) × (found ≡ countOn (unpackedOf (now marks) (w * h)) (w * h)) × Within (at .theta) 2 1 ⌝ }
     ensures { λ r. ⌜
         (let n = w * h in let xs = now (work .entry) in
-        r ≡ weighedOf (now (marks .entry)) (image n 8 xs) (image n 5 xs) (image n 6 xs) (image n 7 xs) w h eps at last)
+        r ≡ weighedOf (unpackedOf (now (marks .entry)) n) (image n 8 xs) (image n 5 xs) (image n 6 xs) (image n 7 xs) w h eps at last)
         ⌝ }
     ensures { λ r. ⌜ Kept (w * h) (now (work .entry)) (now (work .exit)) ⌝ }
 {
@@ -109,31 +92,26 @@ fn weigh(
     }
 }
 
-// The three scratch slices hold a row's places between two loops of the warp.
 pub fn pass(
     work: &mut [f32],
-    marks: &mut [u8],
+    marks: &mut [u64],
     w: usize,
     h: usize,
     eps: f32,
     at: pose::Pose,
     last: f32,
-    spots: &mut [u32],
-    across: &mut [f32],
-    down: &mut [f32],
 ) -> Step
-    requires { ⌜ InRange w h × Lent (w * h) (now work) (now marks) × RowScratch w (now spots) (now across) (now down) × Within (at .theta) 2 1 ⌝ }
+    requires { ⌜ InRange w h × Lent (w * h) (now work) (now marks) × Within (at .theta) 2 1 ⌝ }
     ensures { λ r. ⌜
         r ≡ passOf (image (w * h) 8 (now (work .entry))) (image (w * h) 2 (now (work .entry))) (image (w * h) 3 (now (work .entry)))
         (image (w * h) 4 (now (work .entry))) w h eps at last
         ⌝ }
     ensures { λ r. ⌜ Kept (w * h) (now (work .entry)) (now (work .exit)) × KeptMarks (w * h) (now (marks .entry)) (now (marks .exit)) ⌝ }
 {
-    let n = w * h;
     let map = pose::affine_from_theta_tx_ty(at);
-    let found = warp_work(work, marks, map, w, h, spots, across, down);
+    let found = warp_work(work, marks, map, w, h);
     if found < 16 {
         return Step::Refuse(5);
     }
-    weigh(work, &marks[..n], w, h, eps, at, last, found)
+    weigh(work, marks, w, h, eps, at, last, found)
 }

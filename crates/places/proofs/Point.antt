@@ -15,7 +15,8 @@ use Rattle.floats.proofs.Exactly.{add-whole, mul-whole}
 use Rattle.numbers.specs.Numbers.{floorOf}
 use Rattle.numbers.proofs.Small.{Below, below}
 use Rattle.pose.specs.declared.Map.{Map}
-use Rattle.places.specs.Point.{sxOf, syOf, inside, markedAt, indexOf, markOf}
+use Rattle.bits.specs.Packing.{flagOf}
+use Rattle.places.specs.Point.{sxOf, syOf, inside, markedAt, indexOf}
 use Rattle.places.specs.Places.{PlaceAt, PlaceOf}
 use Rattle.places.specs.declared.Place.{Place}
 
@@ -81,11 +82,10 @@ module _ (map : Map) (w h x y : ℕ) where
     spot-in e = corner-in (indexOf (sxOf map x y)) (indexOf (syOf map x y)) w h (marked-x e .index) (marked-y e .index)
 
   -- a place, as the code works it out from those coordinates
-  pub place-of : (p : Place) → p .mark ≡ pick (markedAt map w h x y) 1 0 → PlaceAt w zeroedX zeroedY (p .at) (p .across) (p .down) → PlaceOf map w h x y p
-  unfolding markOf
+  pub place-of : (p : Place) → p .flag ≡ flagOf (markedAt map w h x y) (y * w + x) → PlaceAt w zeroedX zeroedY (p .at) (p .across) (p .down) → PlaceOf map w h x y p
   place-of p m o =
       record {
-        mark-is = m;
+        flag-is = m;
         place-is = λ e. subst₂ (λ (sx sy : Float). PlaceAt w sx sy (p .at) (p .across) (p .down)) (pick-true _ _ _ e) (pick-true _ _ _ e) o;
       }
 

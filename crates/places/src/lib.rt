@@ -1,4 +1,5 @@
-// places_row: where the pixels of a row of a warped image lie in the source, with their weights and marks and the count of the marks.
+// places_row: where the pixels of a row of a warped image, or of a part of it, lie in the source, with their weights and flags. A flag tells
+// whether its pixel is marked, and stands ready to be packed into a word (crate bits).
 //
 // A pixel is marked exactly when its computed point lies inside: 0 <= sx < w - 1 and 0 <= sy < h - 1 in f32, so never where the point is a
 // NaN. The loop works out numbers alone and reads no image, so that the compiler can take several pixels at a time.
@@ -6,20 +7,18 @@ ghost use mathlib.Core.Path.{_≡_};
 ghost use Prim.Native.Nat.{_+_, _*_, _≤_, _<_};
 ghost use lib.Dec.{T};
 ghost use lib.Ieee.{binary32, inUnsigned, toUnsigned};
-ghost use lib.ListN.{length};
 ghost use Rattle.lists.specs.Marked.{pick};
-ghost use Rattle.lists.specs.Premises.{InRange, RowScratch};
-ghost use Rattle.marks.specs.Marks.{countOn};
+ghost use Rattle.lists.specs.Premises.{InRange, Scratch};
 ghost use Rattle.floats.specs.F32.{0f};
-ghost use Rattle.places.specs.Point.{sxOf, syOf, inside, marksOf};
+ghost use Rattle.places.specs.Point.{sxOf, syOf, inside};
 ghost use Rattle.places.specs.Places.{PlaceOf, PlacesOf};
 
-// The source of a pixel: where the top left of its four pixels lies, the weights of the right and of the lower ones, and its mark.
+// The source of a pixel: where the top left of its four pixels lies, the weights of the right and of the lower ones, and its flag.
 struct Place {
     at: u32,
     across: f32,
     down: f32,
-    mark: u8,
+    flag: u32,
 }
 
 // The computed point of the pixel x, y.
@@ -54,13 +53,6 @@ fn or_zero(within: bool, s: f32) -> f32
     if within { s } else { 0.0 }
 }
 
-// The mark of a pixel.
-fn byte(within: bool) -> u8
-    ensures { λ r. ⌜ r ≡ pick within 1 0 ⌝ }
-{
-    if within { 1 } else { 0 }
-}
-
 // A whole number that is an f32, as one that indexes.
 fn index(v: f32) -> u32
     requires { ⌜ T (inUnsigned binary32 32 v) ⌝ }
@@ -69,7 +61,7 @@ fn index(v: f32) -> u32
     v as u32
 }
 
-// Where a pixel lies in the source, its weights and its mark.
+// Where a pixel lies in the source, its weights and its flag.
 // With no branch, so that a row of them is taken several at a time: outside, the place is that of the point 0, 0, which nobody reads.
 fn place_of(map: pose::Map, w: usize, h: usize, x: usize, y: usize) -> Place
     requires { ⌜ (x < w) × (w ≤ 4096) × (y < h) × (h ≤ 4096) ⌝ }
@@ -83,52 +75,38 @@ fn place_of(map: pose::Map, w: usize, h: usize, x: usize, y: usize) -> Place
     let x0 = numbers::floor_small(tx);
     let y0 = numbers::floor_small(ty);
     let at = index(y0 * numbers::to_f32_short(w) + x0);
-    let mark = byte(within);
+    let flag = bits::flag(within, y * w + x);
     Place {
         at: at,
         across: tx - x0,
         down: ty - y0,
-        mark: mark,
+        flag: flag,
     }
 }
 
-// What a mark adds to the count.
-fn one_more(mark: u8) -> u32
-    ensures { λ r. ⌜ r ≡ mark ⌝ }
-{
-    mark as u32
-}
-
-// Places, weights and marks of the row y. `found` counts the marks of the rows before it, and the answer those up to its end. It is a
-// u32, as wide as the other numbers, so that as many pixels fit one instruction.
+// Places, weights and flags of the `len` pixels from x on of the row y.
 pub fn places_row(
     spots: &mut [u32],
     across: &mut [f32],
     down: &mut [f32],
-    marks: &mut [u8],
+    flags: &mut [u32],
     map: pose::Map,
     w: usize,
     h: usize,
+    x: usize,
     y: usize,
-    found: u32,
-) -> u32
-    requires { ⌜
-        (w ≤ 4096) × (y < h) × (h ≤ 4096) × (y * w + w ≤ 16777216) × RowScratch w (now spots) (now across) (now down)
-        × (y * w + w ≤ length (now marks)) × (found ≡ countOn (marksOf map w h) (y * w))
-        ⌝ }
-    ensures { λ r. ⌜ PlacesOf map w h y (now (marks .entry)) (now (spots .exit)) (now (across .exit)) (now (down .exit)) (now (marks .exit)) r ⌝ }
+    len: usize,
+)
+    requires { ⌜ (w ≤ 4096) × (y < h) × (h ≤ 4096) × (x + len ≤ w) × Scratch len (now spots) (now across) (now down) (now flags) ⌝ }
+    ensures { λ _. ⌜ PlacesOf map w h x y len (now (spots .exit)) (now (across .exit)) (now (down .exit)) (now (flags .exit)) ⌝ }
 {
-    let row = y * w;
-    let mut count = found;
-    let mut x = 0;
-    while x < w {
-        let p = place_of(map, w, h, x, y);
-        spots[x] = p.at;
-        across[x] = p.across;
-        down[x] = p.down;
-        marks[row + x] = p.mark;
-        count += one_more(p.mark);
-        x += 1;
+    let mut k = 0;
+    while k < len {
+        let p = place_of(map, w, h, x + k, y);
+        spots[k] = p.at;
+        across[k] = p.across;
+        down[k] = p.down;
+        flags[k] = p.flag;
+        k += 1;
     }
-    count
 }

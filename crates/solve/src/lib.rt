@@ -11,11 +11,12 @@ ghost use lib.Ieee.{le};
 ghost use lib.Ieee.Scale.{finite};
 ghost use lib.ListN.{length};
 ghost use Rattle.lists.specs.Lists.{image, setImage};
-ghost use Rattle.lists.specs.Marked.{pick};
+ghost use Rattle.lists.specs.Marked.{pick, wordsFor};
 ghost use Rattle.lists.specs.Premises.{InRange};
 ghost use Rattle.floats.specs.Bound.{Within};
 ghost use Rattle.floats.specs.F32.{_⊖_, _⊗_, _⊘_, 0f};
 ghost use Rattle.inverse.specs.Inverse.{timesOf, dotOf};
+ghost use Rattle.bits.specs.Words.{unpackedOf};
 ghost use Rattle.sums.specs.Sums.{steepOf};
 ghost use Rattle.solve.specs.Solve.{movedOf, solveOf};
 
@@ -72,19 +73,19 @@ fn moved(at: pose::Pose, delta: Vector3, rho: f32) -> Step
 // Steepest descent, the sums, the inverse, lambda and the update, with the refusals 8, 9 and 10.
 pub fn solve(
     part: &mut [f32],
-    marks: &[u8],
+    marks: &[u64],
     w: usize,
     h: usize,
     at: pose::Pose,
     s: stats::Stats,
     rho: f32,
 ) -> Step
-    requires { ⌜ InRange w h × (6 * (w * h) ≤ length (now part)) × (w * h ≤ length (now marks)) × Within (at .theta) 2 1 ⌝ }
+    requires { ⌜ InRange w h × (6 * (w * h) ≤ length (now part)) × (wordsFor (w * h) ≤ length (now marks)) × Within (at .theta) 2 1 ⌝ }
     ensures { λ r. ⌜
         now (part .exit) ≡ setImage (w * h) 5
         (steepOf w h (at .theta) (image (w * h) 0 (now (part .entry))) (image (w * h) 1 (now (part .entry)))) (now (part .entry))
         ⌝ }
-    ensures { λ r. ⌜ r ≡ solveOf (now (marks .entry)) (w * h) at
+    ensures { λ r. ⌜ r ≡ solveOf (unpackedOf (now (marks .entry)) (w * h)) (w * h) at
         (steepOf w h (at .theta) (image (w * h) 0 (now (part .entry))) (image (w * h) 1 (now (part .entry))))
         (image (w * h) 0 (now (part .entry))) (image (w * h) 1 (now (part .entry))) (image (w * h) 3 (now (part .entry))) (image (w * h) 4 (now (part .entry))) s rho ⌝ }
 {

@@ -1,4 +1,7 @@
 pub mod Turns
-pub mod Loops
+pub mod Rest
+pub mod Averages
+pub mod Filling
+pub mod Centring
 pub mod Sizes
 pub mod Bounds

@@ -1,28 +1,17 @@
--- Loops over the marked places that carry any number of sums: the whole state is one fold over the marks, a place goes on by cases of
--- its mark, and each sum of the state is a sum of the definitions. Assumes nothing.
-use Prim.Native.Nat.{ℕ, _+_, _<_}
-use mathlib.Core.Path.{_≡_, sym, ap, _∙_}
-use mathlib.Core.Bool.{true, not}
+-- Loops over the marked places that carry any number of sums: the whole state is one fold over the marks, and each sum of the state is a
+-- sum of the definitions. Assumes nothing.
+use Prim.Native.Nat.{ℕ, _<_}
+use mathlib.Core.Path.{_≡_}
+use mathlib.Core.Bool.{true}
 use mathlib.Core.List.{List}
-use borrow.Author.Tests.{eq-eqb, ne-eqb}
 use lib.ListN.{getD}
 use lib.Ieee.{Float, nan}
 use Rattle.lists.specs.Marked.{overMarked}
-use Rattle.lists.proofs.Fold.{over-marked, over-passed, over-part}
+use Rattle.lists.proofs.Fold.{over-part}
 use Rattle.marks.specs.Marks.{on}
 use Rattle.floats.specs.F32.{_⊕_, _⊗_, 0f}
 use Rattle.floats.specs.Sums.{sumOver}
 use Rattle.stats.specs.Stats.{productOf}
-
--- ---- one more place
-module _ {S : Type 0} (ms : List ℕ) (step : S → ℕ → S) (s : S) (i : ℕ) (t : S) (so-far : t ≡ overMarked (on ms) step s i) where
-  pub turn-marked : (getD ms i 0 ≡ 0 → ⊥) → step t i ≡ overMarked (on ms) step s (i + 1)
-  turn-marked h = ap (λ (u : S). step u i) so-far ∙ sym (over-marked (on ms) step s i (ap not (ne-eqb (getD ms i 0) 0 h)))
-
-  pub turn-passed : getD ms i 0 ≡ 0 → t ≡ overMarked (on ms) step s (i + 1)
-  turn-passed h = so-far ∙ sym (over-passed (on ms) step s i (ap not (eq-eqb (getD ms i 0) 0 h)))
-
--- ---- each sum
 
 -- THE LAW: a number of the state that starts at 0 and to which each marked place adds f is the sum of f
 module _ {S : Type 0} (ms : List ℕ) (step : S → ℕ → S) (s : S) (n : ℕ) (p : S → Float) (starts : p s ≡ 0f) where

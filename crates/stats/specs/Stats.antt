@@ -1,6 +1,7 @@
 -- Document 000's means_over_mask and centered_stats_in_place. Every sum is one fold over the pixels in row order that passes unmarked ones by. Definitions only.
-use Prim.Native.Nat.{ℕ}
+use Prim.Native.Nat.{ℕ, _<_}
 use mathlib.Core.Path.{_≡_}
+use mathlib.Core.Bool.{true}
 use mathlib.Core.List.{List}
 use lib.ListN.{getD}
 use lib.Ieee.{Float, nan}
@@ -36,7 +37,13 @@ statsOf marks n «template_zm» «image_zm» = record {
 abbrev pub centeredStats : List ℕ → ℕ → List Float → List Float → Stats
 centeredStats marks n template warped = statsOf marks n (centredOf marks n template) (centredOf marks n warped)
 
--- the part afterwards, and the answer
+-- two images hold the same number at each marked pixel
+abbrev pub AgreeAt : List ℕ → ℕ → List Float → List Float → Type 0
+AgreeAt marks n xs ys = (i : ℕ) → i < n → on marks i ≡ true → getD xs i nan ≡ getD ys i nan
+
+-- the part afterwards, and the answer: nothing but the images 4 and 5 has changed, and where a pixel is marked they hold the centred template and image
 pub record Centred (marks : List ℕ) (n : ℕ) (xs xs′ : List Float) (r : Stats) : Type 0 where
-  pub images : xs′ ≡ setImage n 5 (centredOf marks n (image n 0 xs)) (setImage n 4 (centredOf marks n (image n 3 xs)) xs)
+  pub rest : xs′ ≡ setImage n 5 (image n 5 xs′) (setImage n 4 (image n 4 xs′) xs)
+  pub template : AgreeAt marks n (image n 4 xs′) (centredOf marks n (image n 3 xs))
+  pub warped : AgreeAt marks n (image n 5 xs′) (centredOf marks n (image n 0 xs))
   pub answer : r ≡ centeredStats marks n (image n 3 xs) (image n 0 xs)

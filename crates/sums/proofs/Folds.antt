@@ -1,32 +1,41 @@
--- The sums over the marked places as folds: start, turn and end of each. Assumes nothing.
-use Prim.Native.Nat.{ℕ, _+_, _*_, _<_}
+-- The sums over the marked places as folds: start, turn and end of each. A turn goes through a stretch of marked places, which are read from the part; the
+-- definitions read the images. Assumes nothing.
+use Prim.Native.Nat.{ℕ, _+_, _-_, _*_, _<_}
 use mathlib.Core.Path.{_≡_, refl, sym, ap, ap₂, _∙_}
 use mathlib.Core.List.{List}
 use native.Mathlib.Omega.{arith}
 use lib.ListN.{getD}
 use lib.Ieee.{Float, nan, binary32}
 use Rattle.lists.specs.Lists.{image}
-use Rattle.lists.specs.Marked.{overMarked}
+use Rattle.lists.specs.Marked.{overMarked, overRange}
 use Rattle.lists.proofs.Grow.{getD-tab}
 use Rattle.lists.proofs.Fold.{over-none}
-use Rattle.floats.specs.F32.{_⊕_, _⊖_, _⊗_, 0f}
-use Rattle.floats.proofs.Sums.{sum-agree}
-use Rattle.marks.specs.Marks.{on}
-use Rattle.stats.specs.Stats.{productOf}
 use Rattle.lists.proofs.Images.{getD-place}
-use Rattle.stats.proofs.Turns.{turn-marked, turn-passed, product-part}
+use Rattle.floats.specs.F32.{_⊖_, _⊗_, 0f}
+use Rattle.floats.proofs.Sums.{sum-agree}
+use Rattle.floats.proofs.Products.{times-comm}
+use Rattle.marks.specs.Marks.{on}
+use Rattle.bits.specs.Words.{unpackedOf}
+use Rattle.bits.specs.Stretches.{StretchOf}
+use Rattle.bits.specs.declared.Stretch.{Stretch}
+use Rattle.bits.proofs.Stretches.{stretch-turn}
+use Rattle.stats.specs.Stats.{productOf}
+use Rattle.stats.proofs.Turns.{product-part}
 use Rattle.inverse.specs.declared.Vector3.{Vector3}
 use Rattle.inverse.specs.declared.Matrix3.{Matrix3}
+use Rattle.sums.specs.Steps.{jAt, scaledMore, squaresMore}
 use Rattle.sums.specs.Sums.{projOf, hessianOf, errorOf}
 use Rattle.sums.specs.declared.Upper.{Upper}
-use Rattle.floats.proofs.Products.{times-comm}
 
 -- a sum of products is the same either way round, so h is symmetric
 product-comm : (ms : List ℕ) (n : ℕ) (xs ys : List Float) → productOf ms n xs ys ≡ productOf ms n ys xs
 unfolding productOf
 product-comm ms n xs ys = sum-agree (on ms) (on ms) _ _ n (λ i l. refl) (λ i l m. times-comm binary32 (getD xs i nan) (getD ys i nan))
 
-module _ (ms : List ℕ) (n : ℕ) (part : List Float) where
+module _ (ws : List ℕ) (n : ℕ) (part : List Float) where
+  abbrev ms : List ℕ
+  ms = unpackedOf ws n
+
   abbrev j0 : List Float
   j0 = image n 5 part
 
@@ -36,24 +45,21 @@ module _ (ms : List ℕ) (n : ℕ) (part : List Float) where
   abbrev j2 : List Float
   j2 = image n 1 part
 
-  -- j at a pixel, by places of the part and of the images
-  abbrev pub j-read : ℕ → Vector3
-  j-read i = (getD part (5 * n + i) nan, getD part i nan, getD part (n + i) nan)
-
+  -- j at a pixel, by the images; by places of the part it is the same
   abbrev j-at : ℕ → Vector3
   j-at i = (getD j0 i nan, getD j1 i nan, getD j2 i nan)
 
-  j-is : (i : ℕ) → i < n → j-read i ≡ j-at i
+  j-is : (i : ℕ) → i < n → jAt part n i ≡ j-at i
   j-is i h =
       let a = getD-place n 5 i _ part nan h refl in
       let b = getD-place n 0 i i part nan h (omega arith) in
       let c = getD-place n 1 i (n + i) part nan h (omega arith) in
       λ k. (a k, b k, c k)
 
-  -- ---- the sums of j with v
-  module _ (v : ℕ → Float) where
+  -- ---- the sums of j with an image
+  module _ (xs : List Float) where
     abbrev add-proj : Vector3 → ℕ → Vector3
-    add-proj s k = (s .0 ⊕ j-at k .0 ⊗ v k, s .1 ⊕ j-at k .1 ⊗ v k, s .2 ⊕ j-at k .2 ⊗ v k)
+    add-proj s k = scaledMore s (j-at k) (getD xs k nan)
 
     -- over the marked places below i
     pub projTo : ℕ → Vector3
@@ -63,40 +69,26 @@ module _ (ms : List ℕ) (n : ℕ) (part : List Float) where
     unfolding projTo
     proj-none = sym (over-none (on ms) add-proj (0f, 0f, 0f))
 
-    pub proj-marked : (i : ℕ) → i < n → (s : Vector3) → s ≡ projTo i → (getD ms i 0 ≡ 0 → ⊥) → (j : Vector3) → j ≡ j-read i → (x : Float) → x ≡ v i →
-        _≡_ {A = Vector3} (s .0 ⊕ j .0 ⊗ x, s .1 ⊕ j .1 ⊗ x, s .2 ⊕ j .2 ⊗ x) (projTo (i + 1))
+    pub proj-stretch : (v : ℕ → Float) → ((k : ℕ) → k < n → v k ≡ getD xs k nan) → (i : ℕ) (r : Stretch) → StretchOf ws i n r → (s t : Vector3) → s ≡ projTo i →
+        t ≡ overRange (λ s k. scaledMore s (jAt part n k) (v k)) s (r .from) (r .to - r .from) → t ≡ projTo (r .to)
     unfolding projTo
-    proj-marked i h s e m j ej x ex =
-        ap₂ (λ (j : Vector3) (x : Float). (s .0 ⊕ j .0 ⊗ x, s .1 ⊕ j .1 ⊗ x, s .2 ⊕ j .2 ⊗ x)) (ej ∙ j-is i h) ex ∙ turn-marked ms add-proj (0f, 0f, 0f) i s e m
+    proj-stretch v same i r o s t e f =
+        f ∙ stretch-turn ws n n i r (omega arith) o add-proj (λ s k. scaledMore s (jAt part n k) (v k)) (0f, 0f, 0f) s e (λ u k h. ap₂ (scaledMore u) (j-is k h) (same k h))
 
-    pub proj-passed : (i : ℕ) (s : Vector3) → s ≡ projTo i → getD ms i 0 ≡ 0 → s ≡ projTo (i + 1)
-    unfolding projTo
-    proj-passed i s e m = turn-passed ms add-proj (0f, 0f, 0f) i s e m
-
-    pub proj-end : (s : Vector3) → s ≡ projTo n → (xs : List Float) → ((i : ℕ) → i < n → v i ≡ getD xs i nan) → s ≡ projOf ms n j0 j1 j2 xs
+    pub proj-end : (s : Vector3) → s ≡ projTo n → s ≡ projOf ms n j0 j1 j2 xs
     unfolding projTo projOf
-    proj-end s e xs h =
-        let a = product-part ms add-proj (0f, 0f, 0f) n (λ s. s .0) refl j0 xs (λ s i l m. ap (λ (x : Float). s .0 ⊕ getD j0 i nan ⊗ x) (h i l)) in
-        let b = product-part ms add-proj (0f, 0f, 0f) n (λ s. s .1) refl j1 xs (λ s i l m. ap (λ (x : Float). s .1 ⊕ getD j1 i nan ⊗ x) (h i l)) in
-        let c = product-part ms add-proj (0f, 0f, 0f) n (λ s. s .2) refl j2 xs (λ s i l m. ap (λ (x : Float). s .2 ⊕ getD j2 i nan ⊗ x) (h i l)) in
+    proj-end s e =
+        let a = product-part ms add-proj (0f, 0f, 0f) n (λ s. s .0) refl j0 xs (λ s i l m. refl) in
+        let b = product-part ms add-proj (0f, 0f, 0f) n (λ s. s .1) refl j1 xs (λ s i l m. refl) in
+        let c = product-part ms add-proj (0f, 0f, 0f) n (λ s. s .2) refl j2 xs (λ s i l m. refl) in
         e ∙ λ k. (a k, b k, c k)
 
   -- ---- the six sums of h
   abbrev zero-upper : Upper
   zero-upper = record { m00 = 0f; m01 = 0f; m02 = 0f; m11 = 0f; m12 = 0f; m22 = 0f }
 
-  abbrev add-squares : Upper → Vector3 → Upper
-  add-squares s j = record {
-    m00 = s .m00 ⊕ j .0 ⊗ j .0;
-    m01 = s .m01 ⊕ j .0 ⊗ j .1;
-    m02 = s .m02 ⊕ j .0 ⊗ j .2;
-    m11 = s .m11 ⊕ j .1 ⊗ j .1;
-    m12 = s .m12 ⊕ j .1 ⊗ j .2;
-    m22 = s .m22 ⊕ j .2 ⊗ j .2;
-  }
-
   abbrev add-upper : Upper → ℕ → Upper
-  add-upper s k = add-squares s (j-at k)
+  add-upper s k = squaresMore s (j-at k)
 
   pub upperTo : ℕ → Upper
   upperTo i = overMarked (on ms) add-upper zero-upper i
@@ -105,13 +97,11 @@ module _ (ms : List ℕ) (n : ℕ) (part : List Float) where
   unfolding upperTo
   upper-none = sym (over-none (on ms) add-upper zero-upper)
 
-  pub upper-marked : (i : ℕ) → i < n → (s : Upper) → s ≡ upperTo i → (getD ms i 0 ≡ 0 → ⊥) → (j : Vector3) → j ≡ j-read i → add-squares s j ≡ upperTo (i + 1)
+  pub upper-stretch : (i : ℕ) (r : Stretch) → StretchOf ws i n r → (s t : Upper) → s ≡ upperTo i →
+      t ≡ overRange (λ s k. squaresMore s (jAt part n k)) s (r .from) (r .to - r .from) → t ≡ upperTo (r .to)
   unfolding upperTo
-  upper-marked i h s e m j ej = ap (add-squares s) (ej ∙ j-is i h) ∙ turn-marked ms add-upper zero-upper i s e m
-
-  pub upper-passed : (i : ℕ) (s : Upper) → s ≡ upperTo i → getD ms i 0 ≡ 0 → s ≡ upperTo (i + 1)
-  unfolding upperTo
-  upper-passed i s e m = turn-passed ms add-upper zero-upper i s e m
+  upper-stretch i r o s t e f =
+      f ∙ stretch-turn ws n n i r (omega arith) o add-upper (λ s k. squaresMore s (jAt part n k)) zero-upper s e (λ u k h. ap (squaresMore u) (j-is k h))
 
   abbrev mirrored : Upper → Matrix3
   mirrored s = record {
@@ -140,7 +130,13 @@ module _ (ms : List ℕ) (n : ℕ) (part : List Float) where
       let a21 = a12 ∙ product-comm ms n j1 j2 in
       ap mirrored e ∙ λ k. record { m00 = a00 k; m01 = a01 k; m02 = a02 k; m10 = a10 k; m11 = a11 k; m12 = a12 k; m20 = a20 k; m21 = a21 k; m22 = a22 k }
 
--- ---- the error at a pixel
-pub error-at : (n : ℕ) (lambda : Float) (tz iz : List Float) (i : ℕ) → i < n → lambda ⊗ getD tz i nan ⊖ getD iz i nan ≡ getD (errorOf n lambda tz iz) i nan
+-- ---- the error at a pixel: by the images, and by places of the part
+pub error-is : (n : ℕ) (lambda : Float) (tz iz : List Float) (i : ℕ) → i < n → getD (errorOf n lambda tz iz) i nan ≡ lambda ⊗ getD tz i nan ⊖ getD iz i nan
 unfolding errorOf
-error-at n lambda tz iz i h = sym (getD-tab n i (λ k. lambda ⊗ getD tz k nan ⊖ getD iz k nan) nan h)
+error-is n lambda tz iz i h = getD-tab n i (λ k. lambda ⊗ getD tz k nan ⊖ getD iz k nan) nan h
+
+pub error-at : (n : ℕ) (part : List Float) (lambda : Float) (i : ℕ) → i < n →
+    lambda ⊗ getD part (3 * n + i) nan ⊖ getD part (4 * n + i) nan ≡ getD (errorOf n lambda (image n 3 part) (image n 4 part)) i nan
+error-at n part lambda i h =
+    ap₂ (λ (t z : Float). lambda ⊗ t ⊖ z) (getD-place n 3 i _ part nan h refl) (getD-place n 4 i _ part nan h refl)
+    ∙ sym (error-is n lambda (image n 3 part) (image n 4 part) i h)

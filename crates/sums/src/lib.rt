@@ -1,16 +1,20 @@
 // The sums of the second half of a pass: j0, and what is summed over the marked pixels.
 //
 // It is lent six images one after another: 0 and 1 the warped gradients, 3 and 4 the centred template and image; it leaves j0 in
-// image 5. Image 2 is not looked at. The sums keep the order of the pixels; h is symmetric, so six of its nine sums are worked out.
+// image 5. Image 2 is not looked at. The sums keep the order of the pixels and go by stretches of marked ones, in which no pixel is tested;
+// h is symmetric, so six of its nine sums are worked out.
 use inverse::Matrix3;
 use inverse::Vector3;
 ghost use mathlib.Core.Path.{_≡_};
-ghost use Prim.Native.Nat.{_+_, _*_, _≤_, _<_};
+ghost use Prim.Native.Nat.{_+_, _-_, _*_, _≤_, _<_};
 ghost use lib.Ieee.{nan, neg};
 ghost use lib.ListN.{length, getD};
 ghost use Rattle.lists.specs.Lists.{tab, put, image, setImage};
+ghost use Rattle.lists.specs.Marked.{overRange, wordsFor};
 ghost use Rattle.floats.specs.Bound.{Within};
-ghost use Rattle.floats.specs.F32.{_⊕_, _⊖_, _⊗_, f32};
+ghost use Rattle.floats.specs.F32.{_⊕_, _⊖_, _⊗_, f32, 0f};
+ghost use Rattle.bits.specs.Words.{unpackedOf};
+ghost use Rattle.sums.specs.Steps.{jAt, scaledMore, squaresMore};
 ghost use Rattle.sums.specs.Sums.{steepOf, projOf, hessianOf, errorOf};
 
 // The six sums of h that are worked out: its upper half.
@@ -21,6 +25,13 @@ struct Upper {
     m11: f32,
     m12: f32,
     m22: f32,
+}
+
+// The twelve sums that are worked out before lambda is known.
+struct Twelve {
+    h: Upper,
+    ip: Vector3,
+    tp: Vector3,
 }
 
 // What is summed over the marked pixels before lambda is known.
@@ -68,30 +79,21 @@ pub fn steep(part: &mut [f32], w: usize, h: usize, theta: f32)
 // j of a pixel.
 fn j_at(part: &[f32], n: usize, i: usize) -> Vector3
     requires { ⌜ (i < n) × (6 * n ≤ length (now part)) ⌝ }
-    ensures { λ r. ⌜ r ≡ (getD (now (part .entry)) (5 * n + i) nan, getD (now (part .entry)) i nan, getD (now (part .entry)) (n + i) nan) ⌝ }
+    ensures { λ r. ⌜ r ≡ jAt (now (part .entry)) n i ⌝ }
 {
     Vector3(part[5 * n + i], part[i], part[n + i])
 }
 
 // A pixel's products with v added: s + j * v.
 fn add_scaled(s: Vector3, j: Vector3, v: f32) -> Vector3
-    ensures { λ r. ⌜ r ≡ (s .0 ⊕ j .0 ⊗ v, s .1 ⊕ j .1 ⊗ v, s .2 ⊕ j .2 ⊗ v) ⌝ }
+    ensures { λ r. ⌜ r ≡ scaledMore s j v ⌝ }
 {
     Vector3(s.0 + j.0 * v, s.1 + j.1 * v, s.2 + j.2 * v)
 }
 
 // A pixel's products with each other added.
 fn add_squares(s: Upper, j: Vector3) -> Upper
-    ensures { λ r. ⌜
-        r ≡ record {
-          m00 = s .m00 ⊕ j .0 ⊗ j .0;
-          m01 = s .m01 ⊕ j .0 ⊗ j .1;
-          m02 = s .m02 ⊕ j .0 ⊗ j .2;
-          m11 = s .m11 ⊕ j .1 ⊗ j .1;
-          m12 = s .m12 ⊕ j .1 ⊗ j .2;
-          m22 = s .m22 ⊕ j .2 ⊗ j .2;
-        }
-        ⌝ }
+    ensures { λ r. ⌜ r ≡ squaresMore s j ⌝ }
 {
     Upper {
         m00: s.m00 + j.0 * j.0,
@@ -132,69 +134,119 @@ fn symmetric(s: Upper) -> Matrix3
     }
 }
 
-// h, image_proj and template_proj.
-pub fn project(part: &[f32], marks: &[u8], n: usize) -> Sums
-    requires { ⌜ (6 * n ≤ length (now part)) × (n ≤ length (now marks)) ⌝ }
+// A stretch of pixels, each of them marked, added to the sums of the pixels before.
+fn project_stretch(part: &[f32], n: usize, from: usize, to: usize, before: Twelve) -> Twelve
+    requires { ⌜ (from ≤ to) × (to ≤ n) × (6 * n ≤ length (now part)) ⌝ }
     ensures { λ r. ⌜
-        r .h ≡ hessianOf (now (marks .entry)) n (image n 5 (now (part .entry))) (image n 0 (now (part .entry)))
-        (image n 1 (now (part .entry)))
-        ⌝ }
-    ensures { λ r. ⌜
-        r .«image_proj» ≡ projOf (now (marks .entry)) n (image n 5 (now (part .entry))) (image n 0 (now (part .entry)))
-        (image n 1 (now (part .entry))) (image n 4 (now (part .entry)))
-        ⌝ }
-    ensures { λ r. ⌜
-        r .«template_proj» ≡ projOf (now (marks .entry)) n (image n 5 (now (part .entry))) (image n 0 (now (part .entry)))
-        (image n 1 (now (part .entry))) (image n 3 (now (part .entry)))
+        (let xs = now (part .entry) in
+        (r .h ≡ overRange (λ s i. squaresMore s (jAt xs n i)) (before .h) from (to - from))
+        × (r .ip ≡ overRange (λ s i. scaledMore s (jAt xs n i) (getD xs (4 * n + i) nan)) (before .ip) from (to - from))
+        × (r .tp ≡ overRange (λ s i. scaledMore s (jAt xs n i) (getD xs (3 * n + i) nan)) (before .tp) from (to - from)))
         ⌝ }
 {
     let tz = 3 * n;
     let iz = 4 * n;
-    let mut h = Upper {
-        m00: 0.0,
-        m01: 0.0,
-        m02: 0.0,
-        m11: 0.0,
-        m12: 0.0,
-        m22: 0.0,
-    };
-    let mut ip = Vector3(0.0, 0.0, 0.0);
-    let mut tp = Vector3(0.0, 0.0, 0.0);
-    let mut i = 0;
-    while i < n {
-        if marks[i] != 0 {
-            let j = j_at(part, n, i);
-            h = add_squares(h, j);
-            ip = add_scaled(ip, j, part[iz + i]);
-            tp = add_scaled(tp, j, part[tz + i]);
-        }
+    let mut h = before.h;
+    let mut ip = before.ip;
+    let mut tp = before.tp;
+    let mut i = from;
+    while i < to {
+        let j = j_at(part, n, i);
+        h = add_squares(h, j);
+        ip = add_scaled(ip, j, part[iz + i]);
+        tp = add_scaled(tp, j, part[tz + i]);
         i += 1;
     }
+    Twelve { h, ip, tp }
+}
+
+// The sums of no pixel.
+fn nothing() -> Twelve
+    ensures { λ r. ⌜
+        (r .h ≡ record { m00 = 0f; m01 = 0f; m02 = 0f; m11 = 0f; m12 = 0f; m22 = 0f }) × (r .ip ≡ (0f, 0f, 0f)) × (r .tp ≡ (0f, 0f, 0f))
+        ⌝ }
+{
+    Twelve {
+        h: Upper {
+            m00: 0.0,
+            m01: 0.0,
+            m02: 0.0,
+            m11: 0.0,
+            m12: 0.0,
+            m22: 0.0,
+        },
+        ip: Vector3(0.0, 0.0, 0.0),
+        tp: Vector3(0.0, 0.0, 0.0),
+    }
+}
+
+// h, image_proj and template_proj.
+pub fn project(part: &[f32], marks: &[u64], n: usize) -> Sums
+    requires { ⌜ (n ≤ 16777216) × (6 * n ≤ length (now part)) × (wordsFor n ≤ length (now marks)) ⌝ }
+    ensures { λ r. ⌜
+        (let ms = unpackedOf (now (marks .entry)) n in let xs = now (part .entry) in
+        (r .h ≡ hessianOf ms n (image n 5 xs) (image n 0 xs) (image n 1 xs))
+        × (r .«image_proj» ≡ projOf ms n (image n 5 xs) (image n 0 xs) (image n 1 xs) (image n 4 xs))
+        × (r .«template_proj» ≡ projOf ms n (image n 5 xs) (image n 0 xs) (image n 1 xs) (image n 3 xs)))
+        ⌝ }
+{
+    let mut sums = nothing();
+    let mut i = 0;
+    while i < n {
+        let r = bits::next_stretch(marks, i, n);
+        sums = project_stretch(part, n, r.from, r.to, sums);
+        i = r.to;
+    }
+    let ip = sums.ip;
+    let tp = sums.tp;
     Sums {
-        h: symmetric(h),
+        h: symmetric(sums.h),
         image_proj: ip,
         template_proj: tp,
     }
 }
 
-// error_proj: the sums of j with e = lambda * template_zm - image_zm.
-pub fn errors(part: &[f32], marks: &[u8], n: usize, lambda: f32) -> Vector3
-    requires { ⌜ (6 * n ≤ length (now part)) × (n ≤ length (now marks)) ⌝ }
+// A stretch of pixels, each of them marked, added to the error sums of the pixels before.
+fn errors_stretch(
+    part: &[f32],
+    n: usize,
+    from: usize,
+    to: usize,
+    lambda: f32,
+    before: Vector3,
+) -> Vector3
+    requires { ⌜ (from ≤ to) × (to ≤ n) × (6 * n ≤ length (now part)) ⌝ }
     ensures { λ r. ⌜
-        r ≡ projOf (now (marks .entry)) n (image n 5 (now (part .entry))) (image n 0 (now (part .entry))) (image n 1 (now (part .entry)))
-        (errorOf n lambda (image n 3 (now (part .entry))) (image n 4 (now (part .entry))))
+        (let xs = now (part .entry) in
+        r ≡ overRange (λ s i. scaledMore s (jAt xs n i) (lambda ⊗ getD xs (3 * n + i) nan ⊖ getD xs (4 * n + i) nan)) before from (to - from))
         ⌝ }
 {
     let tz = 3 * n;
     let iz = 4 * n;
+    let mut ep = before;
+    let mut i = from;
+    while i < to {
+        let e = lambda * part[tz + i] - part[iz + i];
+        ep = add_scaled(ep, j_at(part, n, i), e);
+        i += 1;
+    }
+    ep
+}
+
+// error_proj: the sums of j with e = lambda * template_zm - image_zm.
+pub fn errors(part: &[f32], marks: &[u64], n: usize, lambda: f32) -> Vector3
+    requires { ⌜ (n ≤ 16777216) × (6 * n ≤ length (now part)) × (wordsFor n ≤ length (now marks)) ⌝ }
+    ensures { λ r. ⌜
+        (let ms = unpackedOf (now (marks .entry)) n in let xs = now (part .entry) in
+        r ≡ projOf ms n (image n 5 xs) (image n 0 xs) (image n 1 xs) (errorOf n lambda (image n 3 xs) (image n 4 xs)))
+        ⌝ }
+{
     let mut ep = Vector3(0.0, 0.0, 0.0);
     let mut i = 0;
     while i < n {
-        if marks[i] != 0 {
-            let e = lambda * part[tz + i] - part[iz + i];
-            ep = add_scaled(ep, j_at(part, n, i), e);
-        }
-        i += 1;
+        let r = bits::next_stretch(marks, i, n);
+        ep = errors_stretch(part, n, r.from, r.to, lambda, ep);
+        i = r.to;
     }
     ep
 }

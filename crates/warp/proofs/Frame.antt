@@ -1,79 +1,96 @@
--- The loop over the rows: its start, its turn and its end, which is the whole warp. Assumes nothing.
+-- The warp goes on: from nothing, through some pixels and then some more, to the whole image. Assumes nothing.
 use mathlib.Core.Path.{_≡_, refl, sym, ap, _∙_}
-use mathlib.Core.List.{List, [], _∷_}
-use Prim.Native.Nat.{ℕ, _+_, _*_, _≤_, _<_}
-use native.Mathlib.Nat.{zero-add, zero-mul, mul-comm}
+use mathlib.Core.List.{List}
+use Prim.Native.Nat.{ℕ, _+_, _*_, _/_, _%_, _≤_, _<_}
+use native.Mathlib.Nat.{add-zero, zero-add, add-assoc, mul-comm}
 use native.Mathlib.Omega.{arith}
-use lib.ListN.{length, take}
+use lib.ListN.{length}
 use lib.Ieee.{Float}
-use Rattle.lists.specs.Lists.{tab, grid, put, image, setImage}
-use Rattle.lists.proofs.Grow.{length-tab}
-use Rattle.lists.proofs.Fill.{Run, runs, Apart, runs-none, runs-more, take-runs, rows-none, rows-more, row-in}
-use Rattle.marks.specs.Marks.{countOn}
-use Rattle.marks.proofs.Count.{count-none}
+use Rattle.lists.specs.Lists.{tab, put, image, setImage}
+use Rattle.lists.specs.Marked.{wordsFor}
+use Rattle.lists.proofs.Grow.{grid-tab, tab-ext}
+use Rattle.lists.proofs.Put.{length-put, put-again}
+use Rattle.bits.specs.Words.{wordsOf, onesOf}
+use Rattle.bits.specs.Packing.{wordsTo}
+use Rattle.bits.specs.Equal.{OnesAreCount}
+use Rattle.bits.proofs.Equal.{words-all, length-words, ones-are-count}
 use Rattle.pose.specs.declared.Map.{Map}
-use Rattle.places.specs.Point.{marksOf, markOf}
-use Rattle.warp.specs.Warp.{warpOf, Warped, pixelOf}
-use Rattle.warp.specs.Rows.{RowOf}
-use Rattle.warp.proofs.Rows.{sources-kept}
+use Rattle.places.specs.Point.{marksOf}
+use Rattle.warp.specs.Warp.{pixelOf, warpOf, Warped}
+use Rattle.warp.specs.Rows.{threeRows, warpedAt, Holding, WarpedThrough}
+use Rattle.warp.proofs.Beside.{three-none, three-join, three-length, three-sources}
 
-module _ (map : Map) (w h : ℕ) (xs : List Float) (ms : List ℕ) where
-  -- the row y of the warped image k
-  abbrev rowOf : ℕ → ℕ → List Float
-  rowOf k y = tab w (λ x. pixelOf (image (w * h) k xs) map w h x y)
+module _ (map : Map) (w h : ℕ) where
+  -- words with the first p marks and no other bit, wherever they came from, hold these
+  module _ (xs : List ℕ) (room : wordsFor (w * h) ≤ length xs) (p : ℕ) (ws : List ℕ) (is : ws ≡ put xs 0 (wordsTo (marksOf map w h) (w * h) p)) where
+    abbrev held : List ℕ
+    held = wordsTo (marksOf map w h) (w * h) p
 
-  -- the three images that are filled side by side
-  abbrev targets : List (Run Float)
-  targets = (3 * (w * h), rowOf 0) ∷ (4 * (w * h), rowOf 1) ∷ (5 * (w * h), rowOf 2) ∷ []
+    pub holding-length : length ws ≡ length xs
+    holding-length = ap length is ∙ length-put xs 0 held (omega (arith, length-words (marksOf map w h) (w * h) p))
 
-  -- what holds at row y
-  pub record FrameHeld (part : List Float) (marks : List ℕ) (found y : ℕ) : Type 0 where
-    pub bound : y ≤ h
-    pub part-length : length part ≡ length xs
-    pub marks-length : length marks ≡ length ms
-    pub images : part ≡ runs xs targets y
-    pub marked : marks ≡ put ms 0 (grid w y (markOf map w h))
-    pub counted : found ≡ countOn (marksOf map w h) (y * w)
+    pub holding : Holding map w h p ws
+    holding = is ∙ sym (ap (λ (z : List ℕ). put z 0 held) is ∙ put-again xs 0 held held refl (omega (arith, length-words (marksOf map w h) (w * h) p)))
 
-  module _ (fits : (6 * (w * h) ≤ length xs) × (w * h ≤ length ms)) where
-    apart : Apart targets w (h * w) (3 * (w * h)) (length xs)
-    apart =
-        let each : (k y : ℕ) → length (rowOf k y) ≡ w = λ k y. length-tab w _ in
-        (omega arith, each 0, (omega arith, each 1, (omega arith, each 2, omega arith)))
+  -- ---- some pixels, then more
+  pub onward-none : (p : ℕ) (xs : List Float) (ws : List ℕ) → Holding map w h p ws → WarpedThrough map w h p 0 xs ws xs ws
+  onward-none p xs ws e = record { images = three-none (w * h) p (λ j x. warpedAt (image (w * h) j xs) map w h (p + x)) xs; marked = rw add-zero e }
 
-    pub frame-start : FrameHeld xs ms 0 0
-    frame-start =
-        record {
-          bound = omega arith;
-          part-length = refl;
-          marks-length = refl;
-          images = runs-none xs targets;
-          marked = rows-none ms 0 w (markOf map w h);
-          counted = sym (ap (countOn (marksOf map w h)) (zero-mul w) ∙ count-none (marksOf map w h));
-        }
+  module _ (p k l : ℕ) (fits : p + k + l ≤ w * h) (xs : List Float) (ws : List ℕ) (room : (6 * (w * h) ≤ length xs) × (wordsFor (w * h) ≤ length ws)) (xs₁ : List Float) (ws₁ : List ℕ) (first : WarpedThrough map w h p k xs ws xs₁ ws₁) where
+    abbrev rule : ℕ → ℕ → Float
+    rule j x = warpedAt (image (w * h) j xs) map w h (p + x)
 
-    pub frame-turn : (part : List Float) (marks : List ℕ) (found y : ℕ) (part′ : List Float) (marks′ : List ℕ) (r : ℕ) → y < h → length part′ ≡ length part → length marks′ ≡ length marks
-        → FrameHeld part marks found y → RowOf map w h y part marks part′ marks′ r → FrameHeld part′ marks′ r (y + 1)
-    frame-turn part marks found y part′ marks′ r H lp lm q o =
+    pub onward-length : length xs₁ ≡ length xs
+    onward-length = ap length (first .images) ∙ three-length (w * h) p rule xs k (omega arith) (room .0)
+
+    pub onward-words : length ws₁ ≡ length ws
+    onward-words = holding-length ws (room .1) (p + k) ws₁ (first .marked)
+
+    pub onward-holding : Holding map w h (p + k) ws₁
+    onward-holding = holding ws (room .1) (p + k) ws₁ (first .marked)
+
+    kept : (j : ℕ) → j < 3 → image (w * h) j xs₁ ≡ image (w * h) j xs
+    kept j J = ap (image (w * h) j) (first .images) ∙ three-sources (w * h) p rule xs k (omega arith) (room .0) j J
+
+    pub onward-more : (xs₂ : List Float) (ws₂ : List ℕ) → WarpedThrough map w h (p + k) l xs₁ ws₁ xs₂ ws₂ → WarpedThrough map w h p (k + l) xs ws xs₂ ws₂
+    onward-more xs₂ ws₂ next =
         let n = w * h in
-        let room : y * w + w ≤ n = row-in w y h H in
-        let kept = sources-kept n xs part (ap (take (3 * n)) (q .images) ∙ take-runs w h y (omega arith) xs targets (3 * n) (3 * n) apart (omega arith)) in
-        let next : y * w + w ≡ (y + 1) * w = omega arith in
+        let to : List ℕ = wordsTo (marksOf map w h) n (p + k + l) in
+        let len : (q : ℕ) → length (wordsTo (marksOf map w h) n q) ≡ wordsFor n = length-words (marksOf map w h) n in
+        let over : put ws₁ 0 to ≡ put ws 0 to =
+        ap (λ (z : List ℕ). put z 0 to) (first .marked) ∙ put-again ws 0 (wordsTo (marksOf map w h) n (p + k)) to (len (p + k) ∙ sym (len (p + k + l))) (omega (arith, len (p + k), room .1)) in
         record {
-          bound = omega arith;
-          part-length = lp ∙ q .part-length;
-          marks-length = lm ∙ q .marks-length;
-          images = rw (kept 0 (omega arith), kept 1 (omega arith), kept 2 (omega arith)) at (o .images) ∙ rw (q .images) (runs-more w h y H xs targets (3 * n) apart);
-          marked =
-              o .marked
-              ∙ ap (λ (z : List ℕ). put z (y * w) (tab w (λ x. markOf map w h x y))) (q .marked)
-              ∙ ap (λ (k : ℕ). put (put ms 0 (grid w y (markOf map w h))) k (tab w (λ x. markOf map w h x y))) (sym (zero-add (y * w)))
-              ∙ rows-more ms 0 w (markOf map w h) y (omega arith);
-          counted = o .counted ∙ ap (countOn (marksOf map w h)) next;
+          images =
+              next .images
+              ∙ ap (threeRows n (p + k) l (λ j x. warpedAt (image n j xs₁) map w h (p + k + x))) (first .images)
+              ∙ three-join n p rule xs k l (λ j x. warpedAt (image n j xs₁) map w h (p + k + x)) (omega arith) (room .0)
+              (λ j x J X. ap (λ (z : List Float). warpedAt z map w h (p + k + x)) (kept j J) ∙ ap (warpedAt (image n j xs) map w h) (add-assoc p k x));
+          marked = next .marked ∙ over ∙ ap (λ (q : ℕ). put ws 0 (wordsTo (marksOf map w h) n q)) (add-assoc p k l);
         }
 
-    pub frame-end : (part : List Float) (marks : List ℕ) (found y : ℕ) → y ≡ h → FrameHeld part marks found y → Warped map w h xs ms part marks found
-    unfolding setImage warpOf pixelOf grid marksOf markOf
-    frame-end part marks found y e q =
-        let z = rw e at q in
-        record { images = z .images; marked = z .marked; counted = z .counted ∙ ap (countOn (marksOf map w h)) (mul-comm h w) }
+  -- ---- the end
+  whole : (src : List Float) → tab (w * h) (λ i. warpedAt src map w h (0 + i)) ≡ warpOf src map w h
+  unfolding warpedAt warpOf
+  whole src =
+      tab-ext (w * h) _ (λ i. pixelOf src map w h (i % w) (i / w)) (λ i l. ap (λ (z : ℕ). pixelOf src map w h (z % w) (z / w)) (zero-add i))
+      ∙ ap (λ (k : ℕ). tab k (λ i. pixelOf src map w h (i % w) (i / w))) (mul-comm w h)
+      ∙ sym (grid-tab w h (pixelOf src map w h))
+
+  pub onward-all : (xs xs′ : List Float) (ws ws₁ ws′ : List ℕ) (r : ℕ) → wordsFor (w * h) ≤ length ws → ws₁ ≡ put ws 0 (wordsTo (marksOf map w h) (w * h) 0) →
+      WarpedThrough map w h 0 (w * h) xs ws₁ xs′ ws′ → r ≡ onesOf ws′ (wordsFor (w * h)) → Warped map w h xs ws xs′ ws′ r
+  unfolding setImage OnesAreCount
+  onward-all xs xs′ ws ws₁ ws′ r room cleared o e =
+      let n = w * h in
+      let ms = marksOf map w h in
+      let len : (q : ℕ) → length (wordsTo ms n q) ≡ wordsFor n = length-words ms n in
+      let all : ws′ ≡ put ws 0 (wordsOf ms n) =
+      o .marked
+      ∙ ap (λ (z : List ℕ). put z 0 (wordsTo ms n (0 + n))) cleared
+      ∙ put-again ws 0 (wordsTo ms n 0) (wordsTo ms n (0 + n)) (len 0 ∙ sym (len (0 + n))) (omega (arith, len 0))
+      ∙ ap (λ (q : ℕ). put ws 0 (wordsTo ms n q)) (zero-add n)
+      ∙ ap (put ws 0) (words-all ms n) in
+      record {
+        images = o .images ∙ rw (whole (image n 0 xs), whole (image n 1 xs), whole (image n 2 xs), add-zero (3 * n), add-zero (4 * n), add-zero (5 * n));
+        marked = all;
+        counted = e ∙ ap (λ (z : List ℕ). onesOf z (wordsFor n)) all ∙ ones-are-count ms ws n room;
+      }

@@ -1,5 +1,7 @@
 pub mod Pixel
+pub mod Beside
 pub mod Rows
+pub mod Pieces
 pub mod Frame
 pub mod Sizes
 pub mod Bounds

@@ -1,15 +1,11 @@
 -- One warped pixel: what is read of its four pixels. Assumes nothing.
-use mathlib.Core.Path.{_≡_, sym, ap, _∙_}
-use mathlib.Core.Bool.{Bool, true}
+use mathlib.Core.Path.{_≡_, ap, _∙_}
 use mathlib.Core.List.{List}
 use Prim.Native.Nat.{ℕ, _+_, _*_, _<_}
 use native.Mathlib.Omega.{arith}
 use lib.Ieee.{Float, nan}
 use Rattle.lists.specs.Lists.{image}
-use Rattle.lists.specs.Marked.{pick}
-use Rattle.lists.proofs.Cases.{pick-true}
 use Rattle.lists.proofs.Images.{getD-image}
-use Rattle.floats.specs.F32.{0f}
 use Rattle.places.specs.Places.{PlaceAt}
 use Rattle.warp.specs.Warp.{sampleOf}
 use Rattle.places.specs.Point.{indexOf}
@@ -24,9 +20,9 @@ blend-image xs n k w i a b h =
     let r : k * n + (i + w + 1) ≡ k * n + i + w + 1 = omega arith in
     rw (getD-image n k i xs nan (omega arith), getD-image n k (i + 1) xs nan (omega arith), getD-image n k (i + w) xs nan (omega arith), getD-image n k (i + w + 1) xs nan (omega arith), p, q, r)
 
--- a value that the code read for image k of a marked pixel
-pub mixed : (xs : List Float) (n k w i at : ℕ) (a b : Float) (marked : Bool) (v : Float) → marked ≡ true → i + w + 1 < n → at ≡ k * n + i → v ≡ fourAt xs w at a b → v ≡ pick marked (fourAt (image n k xs) w i a b) 0f
-mixed xs n k w i at a b marked v m h e g = g ∙ ap (λ (j : ℕ). fourAt xs w j a b) e ∙ blend-image xs n k w i a b h ∙ sym (pick-true marked _ _ m)
+-- a value that the code read for image k
+pub mixed : (xs : List Float) (n k w i at : ℕ) (a b : Float) (v : Float) → i + w + 1 < n → at ≡ k * n + i → v ≡ fourAt xs w at a b → v ≡ fourAt (image n k xs) w i a b
+mixed xs n k w i at a b v h e g = g ∙ ap (λ (j : ℕ). fourAt xs w j a b) e ∙ blend-image xs n k w i a b h
 
 -- by its place, the sample of a point
 pub sample-is : (src : List Float) (w : ℕ) (sx sy : Float) (i : ℕ) (a b : Float) → PlaceAt w sx sy i a b → fourAt src w i a b ≡ sampleOf src w sx sy

@@ -1,99 +1,139 @@
--- The loop that reads a row: its start, its turn and its end; and that what it reads by a row's places is the warped row. Assumes nothing.
+-- The loops that read the pixels of a piece: a stretch of marked ones, pixel by pixel; and the piece, stretch by stretch. Assumes nothing.
 use mathlib.Core.Path.{_≡_, refl, sym, ap, _∙_}
-use mathlib.Core.Bool.{Bool, true, false, not}
-use mathlib.Core.List.{List, [], _∷_}
-use Prim.Native.Nat.{ℕ, suc, _+_, _*_, _≤_, _<_}
-use native.Mathlib.Nat.{mul-le-mul-right}
+use mathlib.Core.List.{List}
+use Prim.Native.Nat.{ℕ, _+_, _-_, _*_, _≤_, _<_}
+use native.Mathlib.Nat.{sub-self}
 use native.Mathlib.Omega.{arith}
-use lib.Dec.{eqb}
-use lib.ListN.{length, take, getD, set, length-set}
+use lib.ListN.{length, getD, set, length-set}
 use lib.Ieee.{Float, nan}
-use Rattle.lists.specs.Lists.{tab, image}
-use Rattle.lists.specs.Marked.{pick}
-use Rattle.lists.proofs.Cases.{pick-agree}
-use Rattle.lists.proofs.Fill.{Spaced, fills-none, fills-more, take-fills, getD-fill}
-use Rattle.lists.proofs.Grow.{tab-ext}
-use Rattle.lists.proofs.Images.{image-agree}
-use Rattle.marks.specs.Marks.{on}
+use Rattle.lists.specs.Lists.{image}
+use Rattle.lists.proofs.Cases.{pick-true, pick-false}
 use Rattle.floats.specs.F32.{0f}
-use Rattle.pose.specs.declared.Map.{Map}
-use Rattle.places.specs.Point.{sxOf, syOf, markedAt, markOf}
-use Rattle.places.specs.Places.{PlaceAt, PlacesOf}
-use Rattle.places.proofs.Point.{spot-in}
-use Rattle.warp.specs.Warp.{pixelOf}
-use Rattle.warp.specs.Rows.{fourAt, ThreeOf, Reach, readOf, threeRows, RowOf}
+use Rattle.bits.specs.Words.{unpackedOf}
+use Rattle.bits.specs.Stretches.{StretchOf}
+use Rattle.bits.specs.declared.Stretch.{Stretch}
+use Rattle.bits.proofs.Stretches.{stretch-bare, stretch-full}
+use Rattle.warp.specs.Rows.{fourAt, ThreeOf, threeRows, placedOf, readOf}
 use Rattle.warp.specs.declared.Three.{Three}
-use Rattle.warp.proofs.Pixel.{sample-is}
+use Rattle.warp.proofs.Beside.{three-none, three-more, three-join, three-length, three-sources}
 
--- images 0 to 2 stay where the front of the list does
-pub sources-kept : (n : ℕ) (xs ys : List Float) → take (3 * n) ys ≡ take (3 * n) xs → (k : ℕ) → k < 3 → image n k ys ≡ image n k xs
-sources-kept n xs ys e k h = image-agree n k (3 * n) ys xs (omega (arith, mul-le-mul-right {m = suc k} {n = 3} n h)) e
-
--- ---- the loop
-module _ (n w row : ℕ) (ms spots : List ℕ) (across down xs : List Float) where
-  -- what is read of image k for column x
-  abbrev rule : ℕ → ℕ → Float
-  rule = readOf n w row ms spots across down xs
-
-  -- the three rows that are filled side by side
-  abbrev targets : List (ℕ × (ℕ → Float))
-  targets = (3 * n + row, rule 0) ∷ (4 * n + row, rule 1) ∷ (5 * n + row, rule 2) ∷ []
-
-  -- what holds at column x
-  pub record ReadsHeld (part : List Float) (x : ℕ) : Type 0 where
-    pub bound : x ≤ w
+-- ---- a stretch, filled by any rule: f k x for the pixel `from` + x in image 3 + k, where the first of them stands at `start`
+module _ (n start from to : ℕ) (f : ℕ → ℕ → Float) (xs : List Float) where
+  -- what holds at the pixel x
+  pub record StretchHeld (part : List Float) (x : ℕ) : Type 0 where
+    pub low : from ≤ x
+    pub bound : x ≤ to
     pub part-length : length part ≡ length xs
-    pub images : part ≡ threeRows n row x rule xs
+    pub images : part ≡ threeRows n start (x - from) f xs
 
-  module _ (fits : (row + w ≤ n) × (6 * n ≤ length xs)) where
-    apart : Spaced targets w (3 * n) (length xs)
-    apart = omega arith
+  module _ (fits : (from ≤ to) × (start + (to - from) ≤ n) × (6 * n ≤ length xs)) where
+    pub stretch-start : StretchHeld xs from
+    stretch-start = record { low = omega arith; bound = omega arith; part-length = refl; images = three-none n start f xs ∙ ap (λ (m : ℕ). threeRows n start m f xs) (sym (sub-self from)) }
 
-    pub reads-start : ReadsHeld xs 0
-    reads-start = record { bound = omega arith; part-length = refl; images = fills-none xs targets }
-
-    pub reads-turn : (part : List Float) (x i : ℕ) (p : Three) → x < w → ReadsHeld part x → i ≡ getD spots x 0 → ThreeOf n w i (getD across x nan) (getD down x nan) (on ms (row + x)) part p
-        → ReadsHeld (set (set (set part (3 * n + row + x) (p .0)) (4 * n + row + x) (p .1)) (5 * n + row + x) (p .2)) (x + 1)
-    unfolding readOf
-    reads-turn part x i p X q e o =
-        let kept = sources-kept n xs part (ap (take (3 * n)) (q .images) ∙ take-fills w x xs targets (3 * n) apart (omega arith) (3 * n) (omega arith)) in
-        let value : (k : ℕ) → k < 3 → (v : Float) → v ≡ pick (on ms (row + x)) (fourAt (image n k part) w i (getD across x nan) (getD down x nan)) 0f → v ≡ rule k x =
-        λ k K v g. rw (kept k K, e) at g in
+    -- three numbers of the rule are stored, at p, q and r
+    pub stretch-more : (part : List Float) (x p q r : ℕ) (a b c : Float) → x < to → StretchHeld part x → p ≡ 3 * n + start + (x - from) → q ≡ 4 * n + start + (x - from) → r ≡ 5 * n + start + (x - from)
+        → a ≡ f 0 (x - from) → b ≡ f 1 (x - from) → c ≡ f 2 (x - from) → StretchHeld (set (set (set part p a) q b) r c) (x + 1)
+    stretch-more part x p q r a b c X held ep eq er ea eb ec =
+        let l = held .low in
+        let next : x + 1 - from ≡ x - from + 1 = omega arith in
         record {
+          low = omega arith;
           bound = omega arith;
-          part-length = simp length-set (q .part-length);
-          images = rw (value 0 (omega arith) (p .0) (o .first), value 1 (omega arith) (p .1) (o .second), value 2 (omega arith) (p .2) (o .third), q .images) (fills-more w x xs targets (3 * n) apart X);
+          part-length = simp length-set (held .part-length);
+          images = rw (ea, eb, ec, held .images, ep, eq, er, next) (three-more n start f xs (x - from) (omega arith) (omega arith));
         }
 
-    pub reads-end : (part : List Float) (x : ℕ) → x ≡ w → ReadsHeld part x → part ≡ threeRows n row w rule xs
+    pub stretch-end : (part : List Float) (x : ℕ) → x ≡ to → StretchHeld part x → part ≡ threeRows n start (to - from) f xs
+    stretch-end part x e held = rw e at (held .images)
+
+-- ---- the reads of a stretch
+module _ (n w at from to : ℕ) (spots : List ℕ) (across down xs : List Float) where
+  -- what is read of image k for the pixel `from` + x
+  abbrev pub taken : ℕ → ℕ → Float
+  taken k x = placedOf n w spots across down xs k (from + x)
+
+  pub taken-turn : (from ≤ to) × (at + from + (to - from) ≤ n) × (6 * n ≤ length xs) → (part : List Float) (x i : ℕ) (p : Three) → x < to → StretchHeld n (at + from) from to taken xs part x → i ≡ getD spots x 0
+      → ThreeOf n w i (getD across x nan) (getD down x nan) part p
+      → StretchHeld n (at + from) from to taken xs (set (set (set part (3 * n + at + x) (p .0)) (4 * n + at + x) (p .1)) (5 * n + at + x) (p .2)) (x + 1)
+  unfolding placedOf
+  taken-turn fits part x i p X held e o =
+      let l = held .low in
+      let here : from + (x - from) ≡ x = omega arith in
+      let kept : (k : ℕ) → k < 3 → image n k part ≡ image n k xs =
+      λ k K. ap (image n k) (held .images) ∙ three-sources n (at + from) taken xs (x - from) (omega arith) (omega arith) k K in
+      let value : (k : ℕ) → k < 3 → (v : Float) → v ≡ fourAt (image n k part) w i (getD across x nan) (getD down x nan) → v ≡ taken k (x - from) =
+      λ k K v g. rw here (rw (kept k K, e) at g) in
+      stretch-more n (at + from) from to taken xs fits part x _ _ _ (p .0) (p .1) (p .2) X held (omega arith) (omega arith) (omega arith)
+      (value 0 (omega arith) (p .0) (o .first)) (value 1 (omega arith) (p .1) (o .second)) (value 2 (omega arith) (p .2) (o .third))
+
+-- ---- the piece
+module _ (n w at len : ℕ) (ws spots : List ℕ) (across down xs : List Float) where
+  abbrev ms : List ℕ
+  ms = unpackedOf ws n
+
+  abbrev rule : ℕ → ℕ → Float
+  rule = readOf n w at ms spots across down xs
+
+  -- the same is read where the sources are the same
+  same : (ys : List Float) (k i : ℕ) → image n k ys ≡ image n k xs → placedOf n w spots across down ys k i ≡ placedOf n w spots across down xs k i
+  unfolding placedOf
+  same ys k i e = ap (λ (l : List Float). fourAt l w (getD spots i 0) (getD across i nan) (getD down i nan)) e
+
+  -- what holds when x pixels are read
+  pub record ReadsHeld (part : List Float) (x : ℕ) : Type 0 where
+    pub bound : x ≤ len
+    pub part-length : length part ≡ length xs
+    pub images : part ≡ threeRows n at x rule xs
+
+  module _ (fits : (at + len ≤ n) × (6 * n ≤ length xs)) where
+    pub reads-start : ReadsHeld xs 0
+    reads-start = record { bound = omega arith; part-length = refl; images = three-none n at rule xs }
+
+    pub reads-end : (part : List Float) (x : ℕ) → x ≡ len → ReadsHeld part x → part ≡ threeRows n at len rule xs
     reads-end part x e q = rw e at (q .images)
 
--- ---- what is read by the places of a row: its marks tell which count, and the four pixels of each that counts lie inside
-not-zero : (b : Bool) → not (eqb (pick b 1 0) 0) ≡ b
-unfolding pick
-not-zero true = refl
-not-zero false = refl
+    -- a turn: the pixels up to the next stretch are not marked, and those of the stretch are
+    module _ (part : List Float) (x : ℕ) (r : Stretch) (o : StretchOf ws (at + x) (at + len) r) (q : ReadsHeld part x) where
+      abbrev from : ℕ
+      from = r .from - at
 
-module _ (map : Map) (w h y : ℕ) (ms spots : List ℕ) (across down : List Float) (ms′ : List ℕ) (r : ℕ) (room : y * w + w ≤ length ms) (p : PlacesOf map w h y ms spots across down ms′ r) where
-  on-is : (x : ℕ) → x < w → on ms′ (y * w + x) ≡ markedAt map w h x y
-  unfolding markOf
-  on-is x q =
-      let f : ℕ → ℕ = λ k. markOf map w h k y in
-      let e : getD ms′ (y * w + x) 0 ≡ f x = ap (λ (z : List ℕ). getD z (y * w + x) 0) (p .marked) ∙ getD-fill ms (y * w) w f room x 0 q in
-      ap (λ (k : ℕ). not (eqb k 0)) e ∙ not-zero (markedAt map w h x y)
+      abbrev to : ℕ
+      to = r .to - at
 
-  place-at : (x : ℕ) → x < w → on ms′ (y * w + x) ≡ true → PlaceAt w (sxOf map x y) (syOf map x y) (getD spots x 0) (getD across x nan) (getD down x nan)
-  place-at x q e = p .placed .places-are x q (sym (on-is x q) ∙ e)
+      from-is : r .from ≡ at + from
+      from-is = omega (arith, o .low)
 
-  pub row-reach : w ≤ 4096 → h ≤ 4096 → Reach (w * h) w (y * w) ms′ spots
-  row-reach W H = record { reach = λ x q e. rw (place-at x q e .at-is) (spot-in map w h x y W H (sym (on-is x q) ∙ e)) }
+      unmarked : (k i : ℕ) → i < from - x → 0f ≡ rule k (x + i)
+      unfolding readOf
+      unmarked k i h = sym (pick-false _ _ _ (stretch-bare ws n (at + len) (at + x) r (fits .0) o (at + (x + i)) (omega arith) (omega (arith, o .low))))
 
-  pub row-of : (xs xs′ : List Float) → xs′ ≡ threeRows (w * h) (y * w) w (readOf (w * h) w (y * w) ms′ spots across down xs) xs → RowOf map w h y xs ms xs′ ms′ r
-  unfolding readOf pixelOf
-  row-of xs xs′ e =
-      let n = w * h in
-      let f : ℕ → ℕ → Float = readOf n w (y * w) ms′ spots across down xs in
-      let g : ℕ → ℕ → Float = λ k x. pixelOf (image n k xs) map w h x y in
-      let same : (k : ℕ) → tab w (f k) ≡ tab w (g k) =
-      λ k. tab-ext w (f k) (g k) (λ x q. pick-agree _ _ _ _ 0f 0f (on-is x q) (λ m. sample-is (image n k xs) w _ _ _ _ _ (place-at x q m)) (λ m. refl)) in
-      record { images = rw (same 0, same 1, same 2) at e; marked = p .marked; counted = p .counted }
+      marked : (k i : ℕ) → i < to - from → placedOf n w spots across down xs k (from + i) ≡ rule k (from + i)
+      unfolding readOf
+      marked k i h = sym (pick-true _ _ _ (stretch-full ws n (at + len) (at + x) r (fits .0) o (at + (from + i)) (omega (arith, o .low)) (omega (arith, o .low, o .order))))
+
+      module _ (part₁ : List Float) (cleared : part₁ ≡ threeRows n (at + x) (r .from - (at + x)) (λ _ _. 0f) part) where
+        pub clear-turn : part₁ ≡ threeRows n at from rule xs
+        clear-turn =
+            let k : r .from - (at + x) ≡ from - x = omega (arith, o .low) in
+            let z : x + (from - x) ≡ from = omega (arith, o .low) in
+            cleared
+            ∙ rw (q .images, k) (three-join n at rule xs x (from - x) (λ _ _. 0f) (omega (arith, o .low, o .order, o .high)) (fits .1) (λ j i J h. unmarked j i h))
+            ∙ ap (λ (m : ℕ). threeRows n at m rule xs) z
+
+        module _ (part₂ : List Float) (read : part₂ ≡ threeRows n (at + from) (to - from) (λ k i. placedOf n w spots across down part₁ k (from + i)) part₁) where
+          pub reads-turn : ReadsHeld part₂ to
+          reads-turn =
+              let z : from + (to - from) ≡ to = omega (arith, o .low, o .order) in
+              let room : at + from + (to - from) ≤ n = omega (arith, o .low, o .order, o .high, fits .0) in
+              let kept : (k : ℕ) → k < 3 → image n k part₁ ≡ image n k xs =
+              λ k K. ap (image n k) clear-turn ∙ three-sources n at rule xs from (omega (arith, o .low, o .order, o .high, fits .0)) (fits .1) k K in
+              let e : part₂ ≡ threeRows n at to rule xs =
+              read
+              ∙ ap (threeRows n (at + from) (to - from) (λ k i. placedOf n w spots across down part₁ k (from + i))) clear-turn
+              ∙ three-join n at rule xs from (to - from) (λ k i. placedOf n w spots across down part₁ k (from + i)) room (fits .1) (λ j i J h. same part₁ j (from + i) (kept j J) ∙ marked j i h)
+              ∙ ap (λ (m : ℕ). threeRows n at m rule xs) z in
+              record {
+                bound = omega (arith, o .high);
+                part-length = ap length e ∙ three-length n at rule xs to (omega (arith, o .low, o .order, o .high, fits .0)) (fits .1);
+                images = e;
+              }

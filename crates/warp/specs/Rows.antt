@@ -1,16 +1,17 @@
--- What the warp's inner functions say of a row: what is read at its pixels' places. Definitions only.
-use Prim.Native.Nat.{ℕ, _+_, _*_, _<_}
-use mathlib.Core.Bool.{Bool, true}
+-- What the warp's inner functions say of some pixels that follow each other: what is read at their places, and how far the warp has got. Definitions only.
+use Prim.Native.Nat.{ℕ, _+_, _*_, _/_, _%_, _<_}
+use mathlib.Core.Bool.{true}
 use mathlib.Core.Path.{_≡_}
 use mathlib.Core.List.{List}
 use lib.ListN.{getD}
 use lib.Ieee.{Float, nan}
 use Rattle.lists.specs.Lists.{tab, put, image}
 use Rattle.lists.specs.Marked.{pick}
-use Rattle.marks.specs.Marks.{on, countOn}
+use Rattle.marks.specs.Marks.{on}
+use Rattle.bits.specs.Packing.{wordsTo}
 use Rattle.floats.specs.F32.{0f}
 use Rattle.pose.specs.declared.Map.{Map}
-use Rattle.places.specs.Point.{marksOf, markOf}
+use Rattle.places.specs.Point.{marksOf}
 use Rattle.warp.specs.declared.Three.{Three}
 use Rattle.warp.specs.Warp.{fourOf, pixelOf}
 
@@ -18,26 +19,37 @@ use Rattle.warp.specs.Warp.{fourOf, pixelOf}
 unfoldable pub fourAt : List Float → ℕ → ℕ → Float → Float → Float
 fourAt src w i wx wy = fourOf (getD src i nan) (getD src (i + 1) nan) (getD src (i + w) nan) (getD src (i + w + 1) nan) wx wy
 
--- the same in each of the images 0 to 2, and 0 where the pixel is not marked
-pub record ThreeOf (n w i : ℕ) (a b : Float) (marked : Bool) (xs : List Float) (p : Three) : Type 0 where
-  pub first : p .0 ≡ pick marked (fourAt (image n 0 xs) w i a b) 0f
-  pub second : p .1 ≡ pick marked (fourAt (image n 1 xs) w i a b) 0f
-  pub third : p .2 ≡ pick marked (fourAt (image n 2 xs) w i a b) 0f
+-- the same in each of the images 0 to 2
+pub record ThreeOf (n w i : ℕ) (a b : Float) (xs : List Float) (p : Three) : Type 0 where
+  pub first : p .0 ≡ fourAt (image n 0 xs) w i a b
+  pub second : p .1 ≡ fourAt (image n 1 xs) w i a b
+  pub third : p .2 ≡ fourAt (image n 2 xs) w i a b
 
--- of the marks and places of a row that starts at `row`: the four pixels of each marked one lie within the image of n
-pub record Reach (n w row : ℕ) (ms spots : List ℕ) : Type 0 where
-  pub reach : (x : ℕ) → x < w → on ms (row + x) ≡ true → getD spots x 0 + w + 1 < n
-
--- what is read for column x of that row in image k
-unfoldable pub readOf : ℕ → ℕ → ℕ → List ℕ → List ℕ → List Float → List Float → List Float → ℕ → ℕ → Float
-readOf n w row ms spots across down xs k x = pick (on ms (row + x)) (fourAt (image n k xs) w (getD spots x 0) (getD across x nan) (getD down x nan)) 0f
-
--- the first m numbers of three rows put into the images 3 to 5, where they start at `row`: f k x in column x, for the images k from 0 to 2
+-- m numbers put into each of the images 3 to 5, from the pixel `at` on: f k x for the pixel at + x, k from 0 to 2
 abbrev pub threeRows : ℕ → ℕ → ℕ → (ℕ → ℕ → Float) → List Float → List Float
-threeRows n row m f xs = put (put (put xs (3 * n + row) (tab m (f 0))) (4 * n + row) (tab m (f 1))) (5 * n + row) (tab m (f 2))
+threeRows n at m f xs = put (put (put xs (3 * n + at) (tab m (f 0))) (4 * n + at) (tab m (f 1))) (5 * n + at) (tab m (f 2))
 
--- the row y of the three images and of the marks, and the count of the marks up to its end
-pub record RowOf (map : Map) (w h y : ℕ) (xs : List Float) (ms : List ℕ) (xs′ : List Float) (ms′ : List ℕ) (r : ℕ) : Type 0 where
-  pub images : let n = w * h in xs′ ≡ threeRows n (y * w) w (λ k x. pixelOf (image n k xs) map w h x y) xs
-  pub marked : ms′ ≡ put ms (y * w) (tab w (λ x. markOf map w h x y))
-  pub counted : r ≡ countOn (marksOf map w h) (y * w + w)
+-- the places and weights of some pixels are stored in three lists: what is read by those of the pixel x in image k
+unfoldable pub placedOf : ℕ → ℕ → List ℕ → List Float → List Float → List Float → ℕ → ℕ → Float
+placedOf n w spots across down xs k x = fourAt (image n k xs) w (getD spots x 0) (getD across x nan) (getD down x nan)
+
+-- the same for the pixel at + x of the image, 0 where it is not marked
+unfoldable pub readOf : ℕ → ℕ → ℕ → List ℕ → List ℕ → List Float → List Float → List Float → ℕ → ℕ → Float
+readOf n w at ms spots across down xs k x = pick (on ms (at + x)) (placedOf n w spots across down xs k x) 0f
+
+-- the four pixels of each marked one of the len pixels from `at` on lie within the image of n
+pub record Reach (n w at len : ℕ) (ms spots : List ℕ) : Type 0 where
+  pub reach : (x : ℕ) → x < len → on ms (at + x) ≡ true → getD spots x 0 + w + 1 < n
+
+-- the pixel i of a warped image
+unfoldable pub warpedAt : List Float → Map → ℕ → ℕ → ℕ → Float
+warpedAt src map w h i = pixelOf src map w h (i % w) (i / w)
+
+-- of the words that the marks need, the first p marks are there and no other bit
+abbrev pub Holding : Map → ℕ → ℕ → ℕ → List ℕ → Type 0
+Holding map w h p ws = ws ≡ put ws 0 (wordsTo (marksOf map w h) (w * h) p)
+
+-- the warp has gone on from the pixel p through k pixels: they stand in the three images, their marks in the words, and nothing else has changed
+pub record WarpedThrough (map : Map) (w h p k : ℕ) (xs : List Float) (ws : List ℕ) (xs′ : List Float) (ws′ : List ℕ) : Type 0 where
+  pub images : let n = w * h in xs′ ≡ threeRows n p k (λ j x. warpedAt (image n j xs) map w h (p + x)) xs
+  pub marked : ws′ ≡ put ws 0 (wordsTo (marksOf map w h) (w * h) (p + k))

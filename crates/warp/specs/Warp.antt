@@ -7,6 +7,7 @@ use lib.Ieee.{Float, nan}
 use Rattle.lists.specs.Lists.{grid, put, image, setImage}
 use Rattle.lists.specs.Marked.{pick}
 use Rattle.marks.specs.Marks.{countOn}
+use Rattle.bits.specs.Words.{wordsOf}
 use Rattle.floats.specs.F32.{_⊕_, _⊖_, _⊗_, f32, 0f, 1f}
 use Rattle.pose.specs.declared.Map.{Map}
 use Rattle.places.specs.Point.{sxOf, syOf, markedAt, marksOf, indexOf}
@@ -31,8 +32,8 @@ pixelOf src map w h x y = pick (markedAt map w h x y) (sampleOf src w (sxOf map 
 unfoldable pub warpOf : List Float → Map → ℕ → ℕ → List Float
 warpOf src map w h = grid w h (pixelOf src map w h)
 
--- the part and the marks afterwards, and the count
-pub record Warped (map : Map) (w h : ℕ) (xs : List Float) (ms : List ℕ) (xs′ : List Float) (ms′ : List ℕ) (r : ℕ) : Type 0 where
+-- the part and the words of the marks afterwards, and the count
+pub record Warped (map : Map) (w h : ℕ) (xs : List Float) (ws : List ℕ) (xs′ : List Float) (ws′ : List ℕ) (r : ℕ) : Type 0 where
   pub images : let n = w * h in xs′ ≡ setImage n 5 (warpOf (image n 2 xs) map w h) (setImage n 4 (warpOf (image n 1 xs) map w h) (setImage n 3 (warpOf (image n 0 xs) map w h) xs))
-  pub marked : ms′ ≡ put ms 0 (marksOf map w h)
+  pub marked : ws′ ≡ put ws 0 (wordsOf (marksOf map w h) (w * h))
   pub counted : r ≡ countOn (marksOf map w h) (w * h)

@@ -1,23 +1,24 @@
 // warp_three_inverse_map: three images warped by a map inside one lent part, with marks and their count.
 //
 // A pixel is marked exactly when its computed point lies inside (crate places). Unmarked places hold +0 in all three answers. The four
-// source pixels of a marked pixel are proved to lie inside: there is no clamp. A row's places and weights are worked out in a loop of
-// their own, which the compiler can take several pixels at a time; then the row's pixels are read. The three scratch slices hold one
-// row's places between the two loops.
+// source pixels of a marked pixel are proved to lie inside: there is no clamp. A row is worked out in pieces of at most 256 pixels: first
+// the places, weights and flags of a piece, in a loop that the compiler can take several pixels at a time; then its flags are packed into
+// the words of the marks; then its pixels are read, a stretch of marked ones after the other, with no test in a stretch. The scratch for
+// a piece is small, so that the warp holds it itself.
 ghost use mathlib.Core.Path.{_≡_};
-ghost use mathlib.Core.Bool.{true};
-ghost use Prim.Native.Nat.{_+_, _*_, _≤_, _<_};
-ghost use lib.ListN.{length};
-ghost use Rattle.lists.specs.Premises.{InRange, RowScratch};
-ghost use Rattle.marks.specs.Marks.{countOn};
-ghost use Rattle.places.specs.Point.{marksOf};
+ghost use Prim.Native.Nat.{ℕ, _+_, _-_, _*_, _≤_, _<_};
+ghost use lib.ListN.{length, getD};
+ghost use Rattle.lists.specs.Premises.{InRange, Scratch};
+ghost use Rattle.lists.specs.Marked.{wordsFor};
+ghost use Rattle.floats.specs.F32.{0f};
+ghost use Rattle.bits.specs.Words.{unpackedOf};
 ghost use Rattle.warp.specs.Warp.{Warped};
-ghost use Rattle.warp.specs.Rows.{fourAt, ThreeOf, Reach, readOf, threeRows, RowOf};
+ghost use Rattle.warp.specs.Rows.{fourAt, ThreeOf, threeRows, placedOf, readOf, Reach, Holding, WarpedThrough};
 
 // A pixel of the three warped images.
 struct Three(f32, f32, f32);
 
-// A place or a count as a usize.
+// A place as a usize.
 fn wide(i: u32) -> usize
     ensures { λ r. ⌜ r ≡ i ⌝ }
 {
@@ -36,48 +37,45 @@ fn blend(src: &[f32], w: usize, i: usize, a: f32, b: f32) -> f32
         + src[j + 1] * (a * b)
 }
 
-// The same in each of the images 0 to 2; an unmarked pixel is 0 in all three.
-fn mix(part: &[f32], w: usize, n: usize, i: usize, a: f32, b: f32, marked: bool) -> Three
-    requires { ⌜ (3 * n ≤ length (now part)) × (marked ≡ true → i + w + 1 < n) ⌝ }
-    ensures { λ r. ⌜ ThreeOf n w i a b marked (now (part .entry)) r ⌝ }
+// The same in each of the images 0 to 2.
+fn mix(part: &[f32], w: usize, n: usize, i: usize, a: f32, b: f32) -> Three
+    requires { ⌜ (3 * n ≤ length (now part)) × (i + w + 1 < n) ⌝ }
+    ensures { λ r. ⌜ ThreeOf n w i a b (now (part .entry)) r ⌝ }
 {
-    if marked {
-        let first = blend(part, w, i, a, b);
-        let second = blend(part, w, n + i, a, b);
-        let third = blend(part, w, 2 * n + i, a, b);
-        return Three(first, second, third);
-    }
-    Three(0.0, 0.0, 0.0)
+    let first = blend(part, w, i, a, b);
+    let second = blend(part, w, n + i, a, b);
+    let third = blend(part, w, 2 * n + i, a, b);
+    Three(first, second, third)
 }
 
-// The reads of the row that starts at `row` in each image, by its places, weights and marks.
-fn reads_row(
+// The pixels from `from` to `to` of a piece that starts at the pixel `at`, each of them marked, are read by their places and weights.
+fn reads_stretch(
     part: &mut [f32],
-    marks: &[u8],
     spots: &[u32],
     across: &[f32],
     down: &[f32],
     w: usize,
     n: usize,
-    row: usize,
+    at: usize,
+    from: usize,
+    to: usize,
 )
     requires { ⌜
-        (row + w ≤ n) × (6 * n ≤ length (now part)) × (n ≤ length (now marks)) × RowScratch w (now spots) (now across) (now down)
-        × Reach n w row (now marks) (now spots)
+        (from ≤ to) × (at + to ≤ n) × (6 * n ≤ length (now part)) × (to ≤ length (now spots)) × (to ≤ length (now across)) × (to ≤ length (now down))
+        × ((x : ℕ) → from ≤ x → x < to → getD (now spots) x 0 + w + 1 < n)
         ⌝ }
     ensures { λ _. ⌜
-        now (part .exit) ≡ threeRows n row w
-        (readOf n w row (now (marks .entry)) (now (spots .entry)) (now (across .entry)) (now (down .entry)) (now (part .entry)))
+        now (part .exit) ≡ threeRows n (at + from) (to - from)
+        (λ k x. placedOf n w (now (spots .entry)) (now (across .entry)) (now (down .entry)) (now (part .entry)) k (from + x))
         (now (part .entry))
         ⌝ }
 {
-    let first = 3 * n + row;
-    let second = 4 * n + row;
-    let third = 5 * n + row;
-    let mut x = 0;
-    while x < w {
-        let marked = marks[row + x] != 0;
-        let p = mix(part, w, n, wide(spots[x]), across[x], down[x], marked);
+    let first = 3 * n + at;
+    let second = 4 * n + at;
+    let third = 5 * n + at;
+    let mut x = from;
+    while x < to {
+        let p = mix(part, w, n, wide(spots[x]), across[x], down[x]);
         part[first + x] = p.0;
         part[second + x] = p.1;
         part[third + x] = p.2;
@@ -85,49 +83,153 @@ fn reads_row(
     }
 }
 
-// The row y: its places, then its reads.
-fn warp_row(
+// The pixels from `from` to `to` of the image, none of them marked, become +0 in the images 3 to 5. One loop for all three: mostly it is one pixel.
+fn clear_stretch(part: &mut [f32], n: usize, from: usize, to: usize)
+    requires { ⌜ (from ≤ to) × (to ≤ n) × (6 * n ≤ length (now part)) ⌝ }
+    ensures { λ _. ⌜ now (part .exit) ≡ threeRows n from (to - from) (λ _ _. 0f) (now (part .entry)) ⌝ }
+{
+    let first = 3 * n;
+    let second = 4 * n;
+    let third = 5 * n;
+    let mut x = from;
+    while x < to {
+        part[first + x] = 0.0;
+        part[second + x] = 0.0;
+        part[third + x] = 0.0;
+        x += 1;
+    }
+}
+
+// The reads of the `len` pixels from `at` on, by their places and weights, and by the marks in the words.
+fn reads(
     part: &mut [f32],
-    marks: &mut [u8],
+    marks: &[u64],
+    spots: &[u32],
+    across: &[f32],
+    down: &[f32],
+    w: usize,
+    n: usize,
+    at: usize,
+    len: usize,
+)
+    requires { ⌜
+        (at + len ≤ n) × (n ≤ 16777216) × (6 * n ≤ length (now part)) × (wordsFor n ≤ length (now marks)) × (len ≤ length (now spots))
+        × (len ≤ length (now across)) × (len ≤ length (now down)) × Reach n w at len (unpackedOf (now marks) n) (now spots)
+        ⌝ }
+    ensures { λ _. ⌜
+        now (part .exit) ≡ threeRows n at len
+        (readOf n w at (unpackedOf (now (marks .entry)) n) (now (spots .entry)) (now (across .entry)) (now (down .entry)) (now (part .entry)))
+        (now (part .entry))
+        ⌝ }
+{
+    let mut x = 0;
+    while x < len {
+        let r = bits::next_stretch(marks, at + x, at + len);
+        clear_stretch(part, n, at + x, r.from);
+        reads_stretch(part, spots, across, down, w, n, at, r.from - at, r.to - at);
+        x = r.to - at;
+    }
+}
+
+// The `len` pixels from x on of the row y: their places, their marks, then their reads.
+fn warp_piece(
+    part: &mut [f32],
+    marks: &mut [u64],
     spots: &mut [u32],
     across: &mut [f32],
     down: &mut [f32],
+    flags: &mut [u32],
+    map: pose::Map,
+    w: usize,
+    h: usize,
+    x: usize,
+    y: usize,
+    len: usize,
+)
+    requires { ⌜
+        InRange w h × (y < h) × (x + len ≤ w) × (6 * (w * h) ≤ length (now part)) × (wordsFor (w * h) ≤ length (now marks))
+        × Scratch len (now spots) (now across) (now down) (now flags) × Holding map w h (y * w + x) (now marks)
+        ⌝ }
+    ensures { λ _. ⌜ WarpedThrough map w h (y * w + x) len (now (part .entry)) (now (marks .entry)) (now (part .exit)) (now (marks .exit)) ⌝ }
+{
+    let at = y * w + x;
+    places::places_row(spots, across, down, flags, map, w, h, x, y, len);
+    bits::pack(flags, marks, at, len);
+    reads(part, marks, spots, across, down, w, w * h, at, len);
+}
+
+// The row y, piece after piece.
+fn warp_row(
+    part: &mut [f32],
+    marks: &mut [u64],
+    spots: &mut [u32],
+    across: &mut [f32],
+    down: &mut [f32],
+    flags: &mut [u32],
     map: pose::Map,
     w: usize,
     h: usize,
     y: usize,
-    found: u32,
-) -> u32
+)
     requires { ⌜
-        (w ≤ 4096) × (y < h) × (h ≤ 4096) × (y * w + w ≤ w * h) × (w * h ≤ 16777216) × (6 * (w * h) ≤ length (now part))
-        × (w * h ≤ length (now marks)) × RowScratch w (now spots) (now across) (now down) × (found ≡ countOn (marksOf map w h) (y * w))
+        InRange w h × (y < h) × (6 * (w * h) ≤ length (now part)) × (wordsFor (w * h) ≤ length (now marks))
+        × Scratch 256 (now spots) (now across) (now down) (now flags) × Holding map w h (y * w) (now marks)
         ⌝ }
-    ensures { λ r. ⌜ RowOf map w h y (now (part .entry)) (now (marks .entry)) (now (part .exit)) (now (marks .exit)) r ⌝ }
+    ensures { λ _. ⌜ WarpedThrough map w h (y * w) w (now (part .entry)) (now (marks .entry)) (now (part .exit)) (now (marks .exit)) ⌝ }
 {
-    let count = places::places_row(spots, across, down, marks, map, w, h, y, found);
-    reads_row(part, marks, spots, across, down, w, w * h, y * w);
-    count
+    let mut x = 0;
+    while x < w {
+        let len = numbers::least(256, w - x);
+        warp_piece(
+            part,
+            marks,
+            spots,
+            across,
+            down,
+            flags,
+            map,
+            w,
+            h,
+            x,
+            y,
+            len,
+        );
+        x += len;
+    }
 }
 
 // The part's images 0 to 2 are warped into its images 3 to 5, and the first w * h marks are set. Answers how many are marked.
 pub fn warp_three_inverse_map(
     part: &mut [f32],
-    marks: &mut [u8],
+    marks: &mut [u64],
     map: pose::Map,
     w: usize,
     h: usize,
-    spots: &mut [u32],
-    across: &mut [f32],
-    down: &mut [f32],
 ) -> usize
-    requires { ⌜ InRange w h × (6 * (w * h) ≤ length (now part)) × (w * h ≤ length (now marks)) × RowScratch w (now spots) (now across) (now down) ⌝ }
+    requires { ⌜ InRange w h × (6 * (w * h) ≤ length (now part)) × (wordsFor (w * h) ≤ length (now marks)) ⌝ }
     ensures { λ r. ⌜ Warped map w h (now (part .entry)) (now (marks .entry)) (now (part .exit)) (now (marks .exit)) r ⌝ }
 {
-    let mut found = 0;
+    let mut spots = [0u32; 256];
+    let mut across = [0.0f32; 256];
+    let mut down = [0.0f32; 256];
+    let mut flags = [0u32; 256];
+    let words = (w * h + 63) / 64;
+    zeros::fill_words(marks, words);
     let mut y = 0;
     while y < h {
-        found = warp_row(part, marks, spots, across, down, map, w, h, y, found);
+        warp_row(
+            part,
+            marks,
+            &mut spots,
+            &mut across,
+            &mut down,
+            &mut flags,
+            map,
+            w,
+            h,
+            y,
+        );
         y += 1;
     }
-    wide(found)
+    bits::count(marks, words)
 }

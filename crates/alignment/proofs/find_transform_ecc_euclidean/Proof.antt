@@ -5,6 +5,7 @@ use borrow.Author.Needs.{needs}
 use borrow.Author.Tests.{eq-eqb, ne-eqb}
 use denote.Ref.{now}
 use Rattle.lists.specs.Lists.{tab, put}
+use Rattle.lists.specs.Marked.{wordsFor}
 use Rattle.lists.proofs.Cases.{pick-true, pick-false}
 use Rattle.floats.specs.F32.{0f}
 use Rattle.settings.specs.Sides.{resizedOf}
@@ -60,7 +61,7 @@ returns-2 c =
       d .align .ensures .0 ∙ ap (λ (s : Sides). runOf (now (a .template)) (now (a .input)) (a .w) (a .h) (s .w) (s .h) (a .cfg)) sides ∙ sym (pick-true _ _ _ yes),
       (
         d .align .ensures .1 .0 ∙ ap (λ (n : ℕ). put (now (a .work)) 0 (tab (12 * n) (λ _. 0f))) n ∙ sym (pick-true _ _ _ yes),
-        d .align .ensures .1 .1 ∙ ap (λ (n : ℕ). put (now (a .marks)) 0 (tab n (λ _. 0))) n ∙ sym (pick-true _ _ _ yes),
+        d .align .ensures .1 .1 ∙ ap (λ (n : ℕ). put (now (a .marks)) 0 (tab (wordsFor n) (λ _. 0))) n ∙ sym (pick-true _ _ _ yes),
       ),
     )
 

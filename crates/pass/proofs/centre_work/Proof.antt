@@ -1,7 +1,8 @@
 -- `pass::centre_work` meets its contract: the images 0, 3, 4 and 5 of the part from the image 5 on are 5, 8, 9 and 10 of the work. Assumes nothing.
 use borrow.Author.Needs.{needs}
 use denote.Ref.{now}
-use Rattle.pass.proofs.Parts.{centre-back, stats-back}
+use Rattle.bits.specs.Words.{unpackedOf}
+use Rattle.pass.proofs.Parts.{centre-back}
 use Rattle.pass.proofs.centre_work.Statement.{statement}
 use Rattle.pass.proofs.centre_work.Tie as tie
 
@@ -31,9 +32,8 @@ returns c =
     let z = c .before .before in
     let g = z .before .before .before .before in
     let a = g .args in
-    let q = z .centered-stats-in-place .ensures in
-    let f = g .pre .2 .images in
-    (centre-back (now (a .marks)) (a .n) (now (a .work)) f _ (q .images), stats-back (now (a .marks)) (a .n) (now (a .work)) f _ (q .answer))
+    let o = z .centered-stats-in-place in
+    centre-back (unpackedOf (now (a .marks)) (a .n)) (a .n) (now (a .work)) (g .pre .2 .images) _ _ (o .kept .0) (o .ensures)
 
 pub centre-work-spec : {M : Type 1} → statement M
 centre-work-spec =

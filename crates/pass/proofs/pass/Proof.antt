@@ -1,38 +1,31 @@
 -- `pass::pass` meets its contract: too few marks, or what the rest of the pass says. Assumes nothing.
 use Prim.Native.Nat.{_*_}
-use mathlib.Core.Path.{sym}
 use native.Mathlib.Omega.{arith}
 use denote.Ref.{now}
 use borrow.Author.Needs.{needs}
 use Rattle.pass.specs.Kept.{Kept, KeptMarks}
 use Rattle.pass.proofs.Stays.{kept-kept}
-use Rattle.pass.proofs.Front.{front, length-front, count-front, kept-marks}
+use Rattle.pass.proofs.Front.{front, count-front, kept-marks}
 use Rattle.pass.proofs.Work.{kept-warp, weighed-there}
 use Rattle.pass.proofs.Ends.{few-marks, enough-marks}
 use Rattle.pass.proofs.pass.Statement.{statement}
 use Rattle.pass.proofs.pass.Tie as tie
 
--- where the marks are tested; before it, where the warp is done, where the map is known, and where the pass begins
-abbrev warped : tie.After-slice-known10 → tie.After-warp-work
-warped d = d .before .before .before .before .before .before .before .before .before .before
-
+-- where the map is known and where the pass begins, from where the warp is done
 abbrev mapped : tie.After-warp-work → tie.After-affine-from-theta-tx-ty
-mapped z = z .before .before .before .before .before .before
+mapped z = z .before .before .before
 
 abbrev begun : tie.After-warp-work → tie.Start
-begun z = mapped z .before .before .before .before .before .before
+begun z = mapped z .before .before .before
 
--- the warp leaves what a pass reads, and the marks past the first n
+-- the warp leaves what a pass reads, and the words past those of the n marks
 kept : (z : tie.After-warp-work) → let a = begun z .args in Kept (a .w * a .h) (now (a .work)) (z .warp-work .last .0)
 kept z =
     let a = begun z .args in
     kept-warp (mapped z .affine-from-theta-tx-ty .result) (a .w) (a .h) (now (a .work)) (begun z .pre .1 .images) _ (z .warp-work .ensures .0)
 
 stay : (z : tie.After-warp-work) → let a = begun z .args in KeptMarks (a .w * a .h) (now (a .marks)) (z .warp-work .last .1 .0)
-stay z = kept-marks _ _ _ _ _ (z .warp-work .ensures .1 .0) (begun z .pre .1 .places)
-
-mul-n : tie.Need-mul-n
-mul-n c = search needs
+stay z = kept-marks _ _ _ _ _ (begun z .pre .1 .places) (z .warp-work .ensures .1 .0)
 
 affine-from-theta-tx-ty-requires : tie.Need-affine-from-theta-tx-ty-requires
 affine-from-theta-tx-ty-requires c κs = search needs
@@ -46,60 +39,35 @@ same-length c = search needs
 same-length-2 : tie.Need-same-length-2
 same-length-2 c = search needs
 
+returns : tie.Need-returns
+returns c =
+    let z = c .before .before .before .before .before in
+    (few-marks _ _ _ _ _ _ _ _ _ _ (mapped z .affine-from-theta-tx-ty .ensures) _ (z .warp-work .ensures .1 .1) (c .if1 .taken), (kept z, stay z))
+
+weigh-requires : tie.Need-weigh-requires
+weigh-requires c κs =
+    let z = c .before .before .before .before .before .before .before in
+    let q = begun z .pre in
+    let m = z .warp-work .ensures .1 in
+    (q .0, record { images = omega (arith, kept z .size, q .1 .images); places = omega (arith, stay z .size, q .1 .places) }, count-front _ _ _ _ _ (q .1 .places) (m .0) _ (m .1), q .2)
+
 same-length-3 : tie.Need-same-length-3
 same-length-3 c = search needs
 
 same-length-4 : tie.Need-same-length-4
 same-length-4 c = search needs
 
-same-length-5 : tie.Need-same-length-5
-same-length-5 c = search needs
-
-returns : tie.Need-returns
-returns c =
-    let z = warped (c .before) in
-    (few-marks _ _ _ _ _ _ _ _ _ _ (mapped z .affine-from-theta-tx-ty .ensures) _ (z .warp-work .ensures .1 .1) (c .if1 .taken), (kept z, stay z))
-
-slice-reshare-prefix-weigh : tie.Need-slice-reshare-prefix-weigh
-slice-reshare-prefix-weigh c = search needs
-
-slice-aggregate-weigh : tie.Need-slice-aggregate-weigh
-slice-aggregate-weigh c =
-    let z = warped (c .before .before .before) in
-    sym (length-front _ _ _ _ _ (z .warp-work .ensures .1 .0))
-
-weigh-requires : tie.Need-weigh-requires
-weigh-requires c κs =
-    let z = warped (c .before .before .before) in
-    let q = begun z .pre in
-    let m = z .warp-work .ensures .1 in
-    (q .0, record { images = omega (arith, kept z .size, q .1 .images); places = omega (arith, length-front _ _ _ _ _ (m .0)) }, count-front _ _ _ _ _ (m .0) _ (m .1), q .3)
-
-same-length-6 : tie.Need-same-length-6
-same-length-6 c = search needs
-
-same-length-7 : tie.Need-same-length-7
-same-length-7 c = search needs
-
-same-length-8 : tie.Need-same-length-8
-same-length-8 c = search needs
-
-same-length-9 : tie.Need-same-length-9
-same-length-9 c = search needs
-
-same-length-10 : tie.Need-same-length-10
-same-length-10 c = search needs
-
 returns-2 : tie.Need-returns-2
 returns-2 c =
     let v = c .before .before in
     let e = v .before .before .before in
-    let z = warped (e .before) in
+    let z = c .before .before .before .before .before .before .before .before .before .before in
     let a = begun z .args in
+    let f = begun z .pre .1 in
     let m = z .warp-work .ensures in (
       enough-marks _ _ _ _ _ _ _ _ _ _ (mapped z .affine-from-theta-tx-ty .ensures) _ (m .1 .1) (e .if1 .left)
           _
-          (weighed-there (mapped z .affine-from-theta-tx-ty .result) (a .w) (a .h) (now (a .work)) (begun z .pre .1 .images) _ (m .0) _ (front _ _ _ _ _ (m .1 .0)) (a .eps) (a .at) (a .last) _ (v .weigh .ensures .0)),
+          (weighed-there (mapped z .affine-from-theta-tx-ty .result) (a .w) (a .h) (now (a .work)) (f .images) _ (m .0) _ (front _ _ _ _ _ (f .places) (m .1 .0)) (a .eps) (a .at) (a .last) _ (v .weigh .ensures .0)),
       (kept-kept (kept z) (v .weigh .ensures .1), stay z),
     )
 
@@ -107,21 +75,12 @@ pub pass-spec : {M : Type 1} → statement M
 pass-spec =
     tie.close
     (tie.spec
-    mul-n
     affine-from-theta-tx-ty-requires
     warp-work-requires
     same-length
     same-length-2
+    returns
+    weigh-requires
     same-length-3
     same-length-4
-    same-length-5
-    returns
-    slice-reshare-prefix-weigh
-    slice-aggregate-weigh
-    weigh-requires
-    same-length-6
-    same-length-7
-    same-length-8
-    same-length-9
-    same-length-10
     returns-2)

@@ -1,6 +1,8 @@
 -- `pass::solve_work` meets its contract: the images 0, 1, 3, 4 and 5 of the part from the image 6 on are 6, 7, 9, 10 and 11 of the work. Assumes nothing.
 use borrow.Author.Needs.{needs}
 use denote.Ref.{now}
+use Prim.Native.Nat.{_*_}
+use Rattle.bits.specs.Words.{unpackedOf}
 use Rattle.pass.proofs.Parts.{steep-back, solve-back}
 use Rattle.pass.proofs.solve_work.Statement.{statement}
 use Rattle.pass.proofs.solve_work.Tie as tie
@@ -36,8 +38,8 @@ returns c =
     let a = g .args in
     let q = z .solve .ensures in
     let f = g .pre .1 .images in (
-      steep-back (now (a .marks)) (a .w) (a .h) (a .at) (a .s) (a .rho) (now (a .work)) f _ (q .0),
-      solve-back (now (a .marks)) (a .w) (a .h) (a .at) (a .s) (a .rho) (now (a .work)) f _ (q .1),
+      steep-back (unpackedOf (now (a .marks)) (a .w * a .h)) (a .w) (a .h) (a .at) (a .s) (a .rho) (now (a .work)) f _ (q .0),
+      solve-back (unpackedOf (now (a .marks)) (a .w * a .h)) (a .w) (a .h) (a .at) (a .s) (a .rho) (now (a .work)) f _ (q .1),
     )
 
 pub solve-work-spec : {M : Type 1} → statement M

@@ -32,19 +32,10 @@ same-length c = search needs
 same-length-2 : tie.Need-same-length-2
 same-length-2 c = search needs
 
-same-length-3 : tie.Need-same-length-3
-same-length-3 c = search needs
-
-same-length-4 : tie.Need-same-length-4
-same-length-4 c = search needs
-
-same-length-5 : tie.Need-same-length-5
-same-length-5 c = search needs
-
 returns : tie.Need-returns
 returns c =
-    let z = c .before .before .before .before .before .before .before .before .before .before in
-    let g = z .before .before .before .before .before .before .before .before .before .before .before in
+    let z = c .before .before .before .before in
+    let g = z .before .before .before .before .before in
     let a = g .args in
     let q = z .warp-three-inverse-map .ensures in
     (warp-back (a .map) (a .w) (a .h) (now (a .work)) (g .pre .1 .images) _ (q .images), (q .marked, q .counted))
@@ -62,7 +53,4 @@ warp-work-spec =
     warp-three-inverse-map-requires
     same-length
     same-length-2
-    same-length-3
-    same-length-4
-    same-length-5
     returns)

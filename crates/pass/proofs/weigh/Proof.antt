@@ -3,6 +3,7 @@ use Prim.Native.Nat.{_*_}
 use native.Mathlib.Nat.{mul-le-mul}
 use denote.Ref.{now}
 use borrow.Author.Needs.{needs}
+use Rattle.bits.specs.Words.{unpackedOf}
 use Rattle.pass.specs.Kept.{Kept}
 use Rattle.pass.proofs.Work.{kept-centre, solved-there, kept-solve}
 use Rattle.pass.proofs.Ends.{on-bad, on-settled, on-unsettled}
@@ -14,7 +15,8 @@ kept : (z : tie.After-centre-work) → let a = z .before .before .before .before
 kept z =
     let g = z .before .before .before .before in
     let a = g .args in
-    kept-centre (now (a .marks)) (a .w) (a .h) (now (a .work)) (g .pre .1 .images) _ (z .centre-work .ensures .0)
+    let n = a .w * a .h in
+    kept-centre (unpackedOf (now (a .marks)) n) (a .w) (a .h) (now (a .work)) (g .pre .1 .images) _ (z .centre-work .kept .0) _ (z .centre-work .ensures)
 
 mul-n : tie.Need-mul-n
 mul-n c = search needs
@@ -46,7 +48,7 @@ returns : tie.Need-returns
 returns c =
     let j = c .before .before .before in
     let z = j .before .before .before in
-    (on-bad _ _ _ _ _ _ _ _ _ _ _ (z .centre-work .ensures .1) _ (j .judge .ensures) _ (c .before .number .given .1), kept z)
+    (on-bad _ _ _ _ _ _ _ _ _ _ _ (z .centre-work .ensures .answer) _ (j .judge .ensures) _ (c .before .number .given .1), kept z)
 
 same-length-2 : tie.Need-same-length-2
 same-length-2 c = search needs
@@ -55,7 +57,7 @@ returns-2 : tie.Need-returns-2
 returns-2 c =
     let j = c .before .before .before in
     let z = j .before .before .before in
-    (on-settled _ _ _ _ _ _ _ _ _ _ _ (z .centre-work .ensures .1) _ (j .judge .ensures) _ (c .before .rho .given .1), kept z)
+    (on-settled _ _ _ _ _ _ _ _ _ _ _ (z .centre-work .ensures .answer) _ (j .judge .ensures) _ (c .before .rho .given .1), kept z)
 
 same-length-3 : tie.Need-same-length-3
 same-length-3 c = search needs
@@ -68,10 +70,12 @@ returns-3 c =
     let z = j .before .before .before in
     let g = z .before .before .before .before in
     let a = g .args in
+    let ms = unpackedOf (now (a .marks)) (a .w * a .h) in
+    let size = z .centre-work .kept .0 in
     let q = z .centre-work .ensures in (
-      on-unsettled _ _ _ _ _ _ _ _ _ _ _ (q .1) _ (j .judge .ensures) _ (k .rho2 .given .1) _
-          (solved-there (now (a .marks)) (a .w) (a .h) (now (a .work)) (g .pre .1 .images) _ (q .0) (a .at) _ _ _ (v .solve-work .ensures .1)),
-      kept-solve (now (a .marks)) (a .w) (a .h) (now (a .work)) (g .pre .1 .images) _ (q .0) _ _ (v .solve-work .ensures .0),
+      on-unsettled _ _ _ _ _ _ _ _ _ _ _ (q .answer) _ (j .judge .ensures) _ (k .rho2 .given .1) _
+          (solved-there ms (a .w) (a .h) (now (a .work)) (g .pre .1 .images) _ size _ q (a .at) _ _ (v .solve-work .ensures .1)),
+      kept-solve ms (a .w) (a .h) (now (a .work)) (g .pre .1 .images) _ size _ q _ _ (v .solve-work .ensures .0),
     )
 
 pub weigh-spec : {M : Type 1} → statement M

@@ -1,5 +1,6 @@
 -- `places::place_of` meets its contract. Outside, the point is taken as 0, so that its whole parts are small all the same. Assumes nothing.
-use Prim.Native.Nat.{_+_, _*_}
+use Prim.Native.Nat.{ℕ, _+_, _*_, _≤_, _<_}
+use native.Mathlib.Nat.{mul-le-mul}
 use mathlib.Core.Path.{_≡_, ap, ap₂, _∙_}
 use mathlib.Core.Bool.{Bool}
 use native.Mathlib.Omega.{arith}
@@ -9,6 +10,7 @@ use lib.Ieee.{Float, binary32, inUnsigned, toUnsigned}
 use Rattle.lists.specs.Marked.{pick}
 use Rattle.floats.specs.F32.{_⊕_, _⊖_, _⊗_, f32, 0f}
 use Rattle.numbers.proofs.Small.{Below}
+use Rattle.bits.specs.Packing.{flagOf}
 use Rattle.places.specs.Point.{inside, markedAt, indexOf}
 use Rattle.places.proofs.Point.{zeroedX, zeroedY, zeroed-x, zeroed-y, spot-is, place-of}
 use Rattle.places.proofs.place_of.Statement.{statement}
@@ -61,6 +63,13 @@ spot c =
     let s = d .before .before .before .before .before .before .before in
     rw (y0-is d, x0-is d, c .to-f32-short .ensures) (spot-is (s .args .w) _ _ (omega arith) (below-x s .index) (below-y s .index))
 
+-- the row starts within the largest image
+row : (s : tie.Start) → let a = s .args in a .y * a .w ≤ 4096 * 4096
+row s = let p = s .pre in mul-le-mul (le-of-lt-of-le (p .2) (p .3)) (p .1)
+  where
+    le-of-lt-of-le : {a b c : ℕ} → a < b → b ≤ c → a ≤ c
+    le-of-lt-of-le h l = omega arith
+
 point-x-requires : tie.Need-point-x-requires
 point-x-requires c κs = search needs
 
@@ -88,15 +97,21 @@ to-f32-short-requires c κs = search needs
 index-requires : tie.Need-index-requires
 index-requires c κs = spot c .0
 
-byte-requires : tie.Need-byte-requires
-byte-requires c κs = search needs
+mul-flag : tie.Need-mul-flag
+mul-flag c = omega (arith, row (c .before .before .before .before .before .before .before .before .before))
+
+add-flag : tie.Need-add-flag
+add-flag c = omega (arith, row (c .before .before .before .before .before .before .before .before .before))
+
+flag-requires : tie.Need-flag-requires
+flag-requires c κs = search needs
 
 returns : tie.Need-returns
 returns c =
     let f = c .before .before .before in
     let d = f .before .before in
     let a = d .before .before .before .before .before .args in
-    place-of (a .map) (a .w) (a .h) (a .x) (a .y) _ (c .byte .ensures ∙ ap (λ (b : Bool). pick b 1 0) (within-is d))
+    place-of (a .map) (a .w) (a .h) (a .x) (a .y) _ (c .flag .ensures ∙ ap (λ (b : Bool). flagOf b (a .y * a .w + a .x)) (within-is d))
     (record {
       at-is = c .before .index .ensures ∙ spot (c .before .before) .1;
       across-is = ap₂ _⊖_ (x-is d) (x0-is f);
@@ -116,5 +131,7 @@ place-of-spec =
     floor-small-requires-2
     to-f32-short-requires
     index-requires
-    byte-requires
+    mul-flag
+    add-flag
+    flag-requires
     returns)

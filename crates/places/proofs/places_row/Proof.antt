@@ -1,28 +1,29 @@
 -- `places::places_row` meets its contract. Assumes nothing.
 use Prim.Native.Nat.{_-_}
+use mathlib.Core.Path.{_≡_, refl}
 use native.Mathlib.Omega.{arith}
 use denote.Ref.{now}
 use borrow.Author.Needs.{needs}
-use Rattle.places.proofs.Places.{PlacesHeld, places-start, places-turn, places-end, count-room}
+use lib.ListN.{length, length-set}
+use Rattle.places.proofs.Places.{PlacesHeld, places-start, places-turn}
 use Rattle.places.proofs.places_row.Statement.{statement}
 use Rattle.places.proofs.places_row.Tie as tie
 
 abbrev Inv-loop : tie.InvT-loop
-Inv-loop spots₀ across₀ down₀ marks₀ map w h y found row count₀ x₀ spots across down marks count x =
-    PlacesHeld map w h y spots₀ marks₀ across₀ down₀ spots across down marks count x
+Inv-loop spots₀ across₀ down₀ flags₀ map w h x y len k₀ spots across down flags k =
+    PlacesHeld map w h x y len spots across down flags k × (length spots ≡ length spots₀) × (length across ≡ length across₀) × (length down ≡ length down₀) × (length flags ≡ length flags₀)
 
 abbrev μ-loop : tie.MeasureT-loop
-μ-loop spots₀ across₀ down₀ marks₀ map w h y found row count₀ x₀ spots across down marks count x =
-    w - x
-
-mul-row : tie.Need-mul-row Inv-loop μ-loop
-mul-row c = search needs
+μ-loop spots₀ across₀ down₀ flags₀ map w h x y len k₀ spots across down flags k = len - k
 
 loop-holds : tie.Need-loop-holds Inv-loop μ-loop
 loop-holds c =
     let s = c .before .before .before .before in
     let a = s .args in
-    places-start (a .map) (a .w) (a .h) (a .y) (now (a .spots)) (now (a .marks)) (now (a .across)) (now (a .down)) (omega arith) (omega arith) (a .found) (s .pre .6)
+    (places-start (a .map) (a .w) (a .h) (a .x) (a .y) (a .len) (now (a .spots)) (now (a .across)) (now (a .down)) (now (a .flags)) (s .pre .4), refl, refl, refl, refl)
+
+add-place-of : tie.Need-add-place-of Inv-loop μ-loop
+add-place-of c = search needs
 
 place-of-requires : tie.Need-place-of-requires Inv-loop μ-loop
 place-of-requires c κs = search needs
@@ -45,34 +46,28 @@ mul-down c = search needs
 slice-write-down : tie.Need-slice-write-down Inv-loop μ-loop
 slice-write-down c = search needs
 
-add-marks : tie.Need-add-marks Inv-loop μ-loop
-add-marks c = search needs
+mul-flags : tie.Need-mul-flags Inv-loop μ-loop
+mul-flags c = search needs
 
-slice-write-marks : tie.Need-slice-write-marks Inv-loop μ-loop
-slice-write-marks c = search needs
+slice-write-flags : tie.Need-slice-write-flags Inv-loop μ-loop
+slice-write-flags c = search needs
 
-one-more-requires : tie.Need-one-more-requires Inv-loop μ-loop
-one-more-requires c κs = search needs
-
-add-count : tie.Need-add-count Inv-loop μ-loop
-add-count c =
-    let l = c .before .before .before in
-    let a = l .before .before .before .before .before .args in
-    omega (arith, c .one-more .ensures, count-room (a .map) (a .w) (a .h) (a .y) (l .loop .x) (l .loop .count) (c .before .place-of .result) (omega arith) (omega arith) (l .loop .inv .counted) (c .before .place-of .ensures))
-
-add-x : tie.Need-add-x Inv-loop μ-loop
-add-x c = search needs
+add-k : tie.Need-add-k Inv-loop μ-loop
+add-k c = search needs
 
 loop-less : tie.Need-loop-less Inv-loop μ-loop
 loop-less c = search needs
 
 loop-again : tie.Need-loop-again Inv-loop μ-loop
 loop-again c =
-    let l = c .before .before .before in
-    let i = l .loop in
-    let a = l .before .before .before .before .before .args in
-    rw (c .one-more .ensures)
-    (places-turn (a .map) (a .w) (a .h) (a .y) (now (a .spots)) (now (a .marks)) (now (a .across)) (now (a .down)) (omega arith) (omega arith) (i .spots) (i .across) (i .down) (i .marks) (i .count) (i .x) (c .before .place-of .result) (omega arith) (i .inv) (c .before .place-of .ensures))
+    let l = c .before .before .loop in
+    let a = c .before .before .before .before .before .before .before .args in (
+      places-turn (a .map) (a .w) (a .h) (a .x) (a .y) (a .len) (l .spots) (l .across) (l .down) (l .flags) (l .k) (c .place-of .result) (omega arith) (l .inv .0) (c .place-of .ensures),
+      simp length-set (l .inv .1),
+      simp length-set (l .inv .2),
+      simp length-set (l .inv .3),
+      simp length-set (l .inv .4),
+    )
 
 same-length : tie.Need-same-length Inv-loop μ-loop
 same-length c = search needs
@@ -88,9 +83,9 @@ same-length-4 c = search needs
 
 returns : tie.Need-returns Inv-loop μ-loop
 returns c =
-    let i = c .before .loop in
-    let a = c .before .before .before .before .before .before .args in
-    places-end (a .map) (a .w) (a .h) (a .y) (now (a .spots)) (now (a .marks)) (now (a .across)) (now (a .down)) (omega arith) (omega arith) (i .spots) (i .across) (i .down) (i .marks) (i .count) (i .x) (omega arith) (i .inv)
+    let l = c .before .loop in
+    let e : l .k ≡ c .before .before .before .before .before .before .args .len = omega (arith, l .inv .0 .bound) in
+    rw e at (l .inv .0 .so-far)
 
 pub places-row-spec : {M : Type 1} → statement M
 places-row-spec =
@@ -98,8 +93,8 @@ places-row-spec =
     (tie.spec
     Inv-loop
     μ-loop
-    mul-row
     loop-holds
+    add-place-of
     place-of-requires
     mul-spots
     slice-write-spots
@@ -107,11 +102,9 @@ places-row-spec =
     slice-write-across
     mul-down
     slice-write-down
-    add-marks
-    slice-write-marks
-    one-more-requires
-    add-count
-    add-x
+    mul-flags
+    slice-write-flags
+    add-k
     loop-less
     loop-again
     same-length

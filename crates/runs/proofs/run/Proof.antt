@@ -1,11 +1,10 @@
 -- `runs::run` meets its contract: at the loop's head k passes are done, the run is going on, and what passes keep is kept. Assumes nothing.
 use Prim.Native.Nat.{_+_, _*_, _≤_, _-_}
-use mathlib.Core.Path.{_≡_, refl, sym, ap, _∙_}
+use mathlib.Core.Path.{_≡_, sym, ap, _∙_}
 use native.Mathlib.Omega.{arith}
 use borrow.Author.Needs.{needs}
 use lib.Dec.{lit≤}
 use lib.Ieee.{ofBits}
-use lib.ListN.{length}
 use Rattle.lists.specs.Lists.{image}
 use Rattle.floats.specs.Bound.{Within}
 use Rattle.pass.specs.Pass.{passOf}
@@ -20,26 +19,25 @@ use Rattle.runs.proofs.run.Statement.{statement}
 use Rattle.runs.proofs.run.Tie as tie
 
 abbrev Inv-loop : tie.InvT-loop
-Inv-loop work₀ marks₀ w h eps max-iter sx sy spots₀ across₀ down₀ at₀ rho₀ last₀ k₀ work marks spots across down at rho last k =
+Inv-loop work₀ marks₀ w h eps max-iter sx sy at₀ rho₀ last₀ k₀ work marks at rho last k =
     (k ≤ max-iter) × (after (passOf (image (w * h) 8 work₀) (image (w * h) 2 work₀) (image (w * h) 3 work₀) (image (w * h) 4 work₀) w h eps) k ≡ going k at rho last) × Within (at .theta) 2 1
-    × Kept (w * h) work₀ work × KeptMarks (w * h) marks₀ marks × (length spots ≡ length spots₀) × (length across ≡ length across₀) × (length down ≡ length down₀)
+    × Kept (w * h) work₀ work × KeptMarks (w * h) marks₀ marks
 
 abbrev μ-loop : tie.MeasureT-loop
-μ-loop work₀ marks₀ w h eps max-iter sx sy spots₀ across₀ down₀ at₀ rho₀ last₀ k₀ work marks spots across down at rho last k =
-    max-iter - k
+μ-loop work₀ marks₀ w h eps max-iter sx sy at₀ rho₀ last₀ k₀ work marks at rho last k = max-iter - k
 
 loop-holds : tie.Need-loop-holds Inv-loop μ-loop
 unfolding start
-loop-holds c = (omega arith, started _, unfold ofBits in lit≤ tt, kept-none, marks-none, refl, refl, refl)
+loop-holds c = (omega arith, started _, unfold ofBits in lit≤ tt, kept-none, marks-none)
 
 unscaled-requires : tie.Need-unscaled-requires Inv-loop μ-loop
 unscaled-requires c κs = search needs
 
 pass-requires : tie.Need-pass-requires Inv-loop μ-loop
 pass-requires c κs =
-    let l = c .before .before .before .before .before .before .loop in
-    let p = c .before .before .before .before .before .before .before .before .before .before .before .before .pre in
-    (p .0, record { images = omega (arith, l .inv .3 .size, p .1 .images); places = omega (arith, l .inv .4 .size, p .1 .places) }, record { spots-fit = omega (arith, l .inv .5, p .2 .spots-fit); across-fit = omega (arith, l .inv .6, p .2 .across-fit); down-fit = omega (arith, l .inv .7, p .2 .down-fit) }, l .inv .2)
+    let l = c .before .before .before .loop in
+    let p = c .before .before .before .before .before .before .pre in
+    (p .0, record { images = omega (arith, l .inv .3 .size, p .1 .images); places = omega (arith, l .inv .4 .size, p .1 .places) }, l .inv .2)
 
 add-k : tie.Need-add-k Inv-loop μ-loop
 add-k c = search needs
@@ -61,9 +59,9 @@ loop-less c = search needs
 
 loop-again : tie.Need-loop-again Inv-loop μ-loop
 loop-again c =
-    let d = c .before .before .before .before .before .before .before .before .before .before .before .before .before in
-    let l = c .before .before .before .before .before .before .before .before .before .before .before .before .before .before .before .before .before .before .before .before .loop in
-    let a = c .before .before .before .before .before .before .before .before .before .before .before .before .before .before .before .before .before .before .before .before .before .before .before .before .before .before .args in
+    let d = c .before .before .before .before .before .before .before in
+    let l = c .before .before .before .before .before .before .before .before .before .before .before .loop in
+    let a = c .before .before .before .before .before .before .before .before .before .before .before .before .before .before .args in
     let n = a .w * a .h in
     let xs = a .work .now in
     let f = d .pass .ensures .0 ∙ pass-kept (a .w) (a .h) (a .eps) (l .at) (l .last) n xs (l .work) (l .inv .3) in
@@ -73,9 +71,6 @@ loop-again c =
       move-within (a .w) (a .h) (a .eps) (l .at) (l .last) _ _ _ _ _ f _ _ g,
       kept-kept (l .inv .3) (d .pass .ensures .1 .0),
       marks-kept (l .inv .4) (d .pass .ensures .1 .1),
-      d .pass .kept .1 .1 .1 .1 .1 .1 .1 .0 ∙ l .inv .5,
-      d .pass .kept .1 .1 .1 .1 .1 .1 .1 .1 .0 ∙ l .inv .6,
-      d .pass .kept .1 .1 .1 .1 .1 .1 .1 .1 .1 .0 ∙ l .inv .7,
     )
 
 same-length : tie.Need-same-length Inv-loop μ-loop
@@ -84,69 +79,42 @@ same-length c = search needs
 same-length-2 : tie.Need-same-length-2 Inv-loop μ-loop
 same-length-2 c = search needs
 
+returns : tie.Need-returns Inv-loop μ-loop
+returns c =
+    let l = c .before .before .loop in
+    let a = c .before .before .before .before .before .args in (
+      ap (λ (z : Answer). record { passes = l .k; answer = z }) (c .unscaled .ensures)
+          ∙ sym (passed _ (l .k) (l .at) (l .rho) (l .last) (l .inv .1) (a .sx) (a .sy) (a .max-iter) (c .before .if1 .taken)),
+      (l .inv .3, l .inv .4),
+    )
+
 same-length-3 : tie.Need-same-length-3 Inv-loop μ-loop
 same-length-3 c = search needs
 
 same-length-4 : tie.Need-same-length-4 Inv-loop μ-loop
 same-length-4 c = search needs
 
-same-length-5 : tie.Need-same-length-5 Inv-loop μ-loop
-same-length-5 c = search needs
-
-returns : tie.Need-returns Inv-loop μ-loop
-returns c =
-    let l = c .before .before .loop in
-    let a = c .before .before .before .before .before .before .before .before .args in (
-      ap (λ (z : Answer). record { passes = l .k; answer = z }) (c .unscaled .ensures)
-          ∙ sym (passed _ (l .k) (l .at) (l .rho) (l .last) (l .inv .1) (a .sx) (a .sy) (a .max-iter) (c .before .if1 .taken)),
-      (l .inv .3, l .inv .4),
-    )
-
-same-length-6 : tie.Need-same-length-6 Inv-loop μ-loop
-same-length-6 c = search needs
-
-same-length-7 : tie.Need-same-length-7 Inv-loop μ-loop
-same-length-7 c = search needs
-
-same-length-8 : tie.Need-same-length-8 Inv-loop μ-loop
-same-length-8 c = search needs
-
-same-length-9 : tie.Need-same-length-9 Inv-loop μ-loop
-same-length-9 c = search needs
-
-same-length-10 : tie.Need-same-length-10 Inv-loop μ-loop
-same-length-10 c = search needs
-
 returns-2 : tie.Need-returns-2 Inv-loop μ-loop
 returns-2 c =
-    let d = c .before .before .before .before .before .before .before .before .before .before .before .before .before in
-    let l = c .before .before .before .before .before .before .before .before .before .before .before .before .before .before .before .before .before .before .before .before .loop in
-    let a = c .before .before .before .before .before .before .before .before .before .before .before .before .before .before .before .before .before .before .before .before .before .before .before .before .before .before .args in
+    let d = c .before .before .before .before .before .before .before in
+    let l = c .before .before .before .before .before .before .before .before .before .before .before .loop in
+    let a = c .before .before .before .before .before .before .before .before .before .before .before .before .before .before .args in
     let f = d .pass .ensures .0 ∙ pass-kept (a .w) (a .h) (a .eps) (l .at) (l .last) (a .w * a .h) (a .work .now) (l .work) (l .inv .3) in (
       sym (refusing _ (l .k) (l .at) (l .rho) (l .last) (l .inv .1) _ f (a .sx) (a .sy) _ (a .max-iter) (c .before .step .given .1) (omega arith)),
       (kept-kept (l .inv .3) (d .pass .ensures .1 .0), marks-kept (l .inv .4) (d .pass .ensures .1 .1)),
     )
 
-same-length-11 : tie.Need-same-length-11 Inv-loop μ-loop
-same-length-11 c = search needs
+same-length-5 : tie.Need-same-length-5 Inv-loop μ-loop
+same-length-5 c = search needs
 
-same-length-12 : tie.Need-same-length-12 Inv-loop μ-loop
-same-length-12 c = search needs
-
-same-length-13 : tie.Need-same-length-13 Inv-loop μ-loop
-same-length-13 c = search needs
-
-same-length-14 : tie.Need-same-length-14 Inv-loop μ-loop
-same-length-14 c = search needs
-
-same-length-15 : tie.Need-same-length-15 Inv-loop μ-loop
-same-length-15 c = search needs
+same-length-6 : tie.Need-same-length-6 Inv-loop μ-loop
+same-length-6 c = search needs
 
 returns-3 : tie.Need-returns-3 Inv-loop μ-loop
 returns-3 c =
-    let d = c .before .before .before .before .before .before .before .before .before .before .before .before .before .before in
-    let l = c .before .before .before .before .before .before .before .before .before .before .before .before .before .before .before .before .before .before .before .before .before .loop in
-    let a = c .before .before .before .before .before .before .before .before .before .before .before .before .before .before .before .before .before .before .before .before .before .before .before .before .before .before .before .args in
+    let d = c .before .before .before .before .before .before .before .before in
+    let l = c .before .before .before .before .before .before .before .before .before .before .before .before .loop in
+    let a = c .before .before .before .before .before .before .before .before .before .before .before .before .before .before .before .args in
     let f = d .pass .ensures .0 ∙ pass-kept (a .w) (a .h) (a .eps) (l .at) (l .last) (a .w * a .h) (a .work .now) (l .work) (l .inv .3) in (
       ap (λ (z : Answer). record { passes = l .k + 1; answer = z }) (c .unscaled2 .ensures)
           ∙ sym (stopping _ (l .k) (l .at) (l .rho) (l .last) (l .inv .1) _ f (a .sx) (a .sy) _ (a .max-iter) (c .before .before .step2 .given .1) (omega arith)),
@@ -171,19 +139,10 @@ run-spec =
     loop-again
     same-length
     same-length-2
+    returns
     same-length-3
     same-length-4
-    same-length-5
-    returns
-    same-length-6
-    same-length-7
-    same-length-8
-    same-length-9
-    same-length-10
     returns-2
-    same-length-11
-    same-length-12
-    same-length-13
-    same-length-14
-    same-length-15
+    same-length-5
+    same-length-6
     returns-3)

@@ -1,9 +1,11 @@
 -- `solve::solve` meets its contract: one case for each of its three ends. Assumes nothing.
-use Prim.Native.Nat.{_*_}
+use Prim.Native.Nat.{_*_, _≤_}
 use mathlib.Core.Path.{_≡_, _∙_}
+use native.Mathlib.Nat.{mul-le-mul}
 use native.Mathlib.Omega.{arith}
 use borrow.Author.Needs.{needs}
 use Rattle.lists.specs.Lists.{image}
+use Rattle.bits.specs.Words.{unpackedOf}
 use Rattle.sums.specs.Sums.{steepOf}
 use Rattle.solve.specs.Solve.{solveOf}
 use Rattle.solve.proofs.Ends.{no-inverse, no-lambda, one-lambda, solve-back}
@@ -16,12 +18,17 @@ back : (z : tie.After-steep) →
     let n = a .w * a .h in
     let xs = a .part .now in
     let ys = z .steep .last .0 in
-    solveOf (a .marks .now) n (a .at) (image n 5 ys) (image n 0 ys) (image n 1 ys) (image n 3 ys) (image n 4 ys) (a .s) (a .rho)
-    ≡ solveOf (a .marks .now) n (a .at) (steepOf (a .w) (a .h) (a .at .theta) (image n 0 xs) (image n 1 xs)) (image n 0 xs) (image n 1 xs) (image n 3 xs) (image n 4 xs) (a .s) (a .rho)
+    let ms = unpackedOf (a .marks .now) n in
+    solveOf ms n (a .at) (image n 5 ys) (image n 0 ys) (image n 1 ys) (image n 3 ys) (image n 4 ys) (a .s) (a .rho)
+    ≡ solveOf ms n (a .at) (steepOf (a .w) (a .h) (a .at .theta) (image n 0 xs) (image n 1 xs)) (image n 0 xs) (image n 1 xs) (image n 3 xs) (image n 4 xs) (a .s) (a .rho)
 back z =
     let g = z .before .before .before .before in
     let a = g .args in
     solve-back _ _ _ _ (a .w) (a .h) (a .at .theta) _ _ (a .part .now) (z .steep .last .0) (z .steep .ensures) (g .pre .1)
+
+-- the pixels are at most 2 ^ 24
+few : (z : tie.After-steep) → let a = z .before .before .before .before .args in a .w * a .h ≤ 16777216
+few z = let g = z .before .before .before .before in mul-le-mul (g .pre .0 .w-most) (g .pre .0 .h-most)
 
 mul-n : tie.Need-mul-n
 mul-n c = search needs
@@ -30,7 +37,7 @@ steep-requires : tie.Need-steep-requires
 steep-requires c κs = search needs
 
 project-requires : tie.Need-project-requires
-project-requires c κs = omega (arith, c .before .before .before .steep .kept .0)
+project-requires c κs = let z = c .before .before .before in omega (arith, z .steep .kept .0, few z)
 
 try-inverse-requires : tie.Need-try-inverse-requires
 try-inverse-requires c κs = search needs
@@ -71,14 +78,14 @@ returns-2 c =
     let b = j .before in
     let z = b .before .before .before .before in (
       z .steep .ensures,
-      no-lambda _ _ _ _ _ _ _ _ _ _ (b .project .result .h) (b .project .ensures .0) _ _ (j .try-inverse .ensures) (i .h-inv .given .1) _ _ (b .project .ensures .1 .0) (b .project .ensures .1 .1) _ (l .lambda-of .ensures) (c .enum-told2 .given .1) ∙ back z,
+      no-lambda _ _ _ _ _ _ _ _ _ _ (b .project .result .h) (b .project .ensures .0) _ _ (j .try-inverse .ensures) (i .h-inv .given .1) _ _ (b .project .ensures .1) (b .project .ensures .2) _ (l .lambda-of .ensures) (c .enum-told2 .given .1) ∙ back z,
     )
 
 errors-requires : tie.Need-errors-requires
 errors-requires c κs =
     let z = c .before .before .before .before .before .before .before .before .before .before .before .before .before in
     let g = z .before .before .before .before in
-    omega (arith, z .steep .kept .0, g .pre)
+    omega (arith, z .steep .kept .0, g .pre, few z)
 
 times-requires : tie.Need-times-requires
 times-requires c κs = search needs
@@ -100,7 +107,7 @@ returns-3 c =
     let b = j .before in
     let z = b .before .before .before .before in (
       z .steep .ensures,
-      c .moved .ensures ∙ one-lambda _ _ _ _ _ _ _ _ _ _ (b .project .result .h) (b .project .ensures .0) _ _ (j .try-inverse .ensures) (i .h-inv .given .1) _ _ (b .project .ensures .1 .0) (b .project .ensures .1 .1) _ (l .lambda-of .ensures) _ (k .lambda .given .1) _ _ (e .errors .ensures) (t .times .ensures) ∙ back z,
+      c .moved .ensures ∙ one-lambda _ _ _ _ _ _ _ _ _ _ (b .project .result .h) (b .project .ensures .0) _ _ (j .try-inverse .ensures) (i .h-inv .given .1) _ _ (b .project .ensures .1) (b .project .ensures .2) _ (l .lambda-of .ensures) _ (k .lambda .given .1) _ _ (e .errors .ensures) (t .times .ensures) ∙ back z,
     )
 
 pub solve-spec : {M : Type 1} → statement M

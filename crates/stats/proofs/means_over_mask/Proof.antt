@@ -1,61 +1,50 @@
 -- `stats::means_over_mask` meets its contract. The loop's invariant: the two sums are those over the marked places below i. Assumes nothing.
 use Prim.Native.Nat.{_≤_, _-_}
-use mathlib.Core.Path.{_≡_, _∙_}
-use mathlib.Core.Logic.{⊎-elim}
+use mathlib.Core.Path.{_≡_}
 use native.Mathlib.Omega.{arith}
 use borrow.Author.Needs.{needs}
+use denote.Ref.{now}
 use Rattle.marks.proofs.Count.{count-le}
-use Rattle.stats.proofs.Loops.{bothOf, both-none, both-marked, both-passed, means-of}
+use Rattle.bits.specs.Words.{unpackedOf}
+use Rattle.bits.proofs.Stretches.{stretch-further}
+use Rattle.stats.proofs.Averages.{bothOf, both-none, both-turn, means-of}
 use Rattle.stats.proofs.means_over_mask.Statement.{statement}
 use Rattle.stats.proofs.means_over_mask.Tie as tie
 
 abbrev Inv-loop : tie.InvT-loop
-Inv-loop part marks n found t s₀ i₀ s i = (i ≤ n) × (s ≡ bothOf marks n part i)
+Inv-loop part marks n found s₀ i₀ s i = (i ≤ n) × (s ≡ bothOf marks n part i)
 
 abbrev μ-loop : tie.MeasureT-loop
-μ-loop part marks n found t s₀ i₀ s i = n - i
-
-mul-t : tie.Need-mul-t Inv-loop μ-loop
-mul-t c = search needs
+μ-loop part marks n found s₀ i₀ s i = n - i
 
 loop-holds : tie.Need-loop-holds Inv-loop μ-loop
 loop-holds c = (omega arith, both-none _ _ _)
 
-shared-slice-read-if1 : tie.Need-shared-slice-read-if1 Inv-loop μ-loop
-shared-slice-read-if1 c = search needs
+next-stretch-requires : tie.Need-next-stretch-requires Inv-loop μ-loop
+next-stretch-requires c κs = search needs
 
-add-t12 : tie.Need-add-t12 Inv-loop μ-loop
-add-t12 c = search needs
-
-mul-t13 : tie.Need-mul-t13 Inv-loop μ-loop
-mul-t13 c = search needs
-
-shared-slice-read-t15 : tie.Need-shared-slice-read-t15 Inv-loop μ-loop
-shared-slice-read-t15 c = search needs
-
-mul-t17 : tie.Need-mul-t17 Inv-loop μ-loop
-mul-t17 c = search needs
-
-shared-slice-read-t19 : tie.Need-shared-slice-read-t19 Inv-loop μ-loop
-shared-slice-read-t19 c = search needs
-
-add-i : tie.Need-add-i Inv-loop μ-loop
-add-i c = search needs
+means-stretch-requires : tie.Need-means-stretch-requires Inv-loop μ-loop
+means-stretch-requires c κs = search needs
 
 loop-less : tie.Need-loop-less Inv-loop μ-loop
-loop-less c = search needs
+loop-less c =
+    let d = c .before in
+    let l = d .before .before .loop in
+    let a = d .before .before .before .before .before .args in
+    let o = d .next-stretch .ensures in
+    omega (arith, o .high, stretch-further (now (a .marks)) (a .n) (a .n) (l .i) (d .next-stretch .result) (omega arith) o (omega arith))
 
 loop-again : tie.Need-loop-again Inv-loop μ-loop
 loop-again c =
-    let l = c .before .before .before .loop in (
-      omega arith,
-      ⊎-elim (λ w. w .5 ∙ both-marked _ _ _ (l .i) (l .s) (l .inv .1) (omega arith) (w .0 .taken))
-          (λ w. w .1 ∙ both-passed _ _ _ (l .i) (l .s) (l .inv .1) (w .0 .left))
-          (c .if1 .came),
-    )
+    let d = c .before in
+    let l = d .before .before .loop in
+    let o = d .next-stretch .ensures in
+    (o .high, both-turn _ _ _ (l .i) (d .next-stretch .result) o (l .s) (l .inv .1) _ (c .means-stretch .ensures))
 
 to-f32-requires : tie.Need-to-f32-requires Inv-loop μ-loop
-to-f32-requires c κs = omega (arith, count-le (c .before .before .before .before .args .marks .now) (c .before .before .before .before .args .n))
+to-f32-requires c κs =
+    let a = c .before .before .before .before .args in
+    omega (arith, count-le (unpackedOf (a .marks .now) (a .n)) (a .n))
 
 returns : tie.Need-returns Inv-loop μ-loop
 returns c =
@@ -70,15 +59,9 @@ means-over-mask-spec =
     (tie.spec
     Inv-loop
     μ-loop
-    mul-t
     loop-holds
-    shared-slice-read-if1
-    add-t12
-    mul-t13
-    shared-slice-read-t15
-    mul-t17
-    shared-slice-read-t19
-    add-i
+    next-stretch-requires
+    means-stretch-requires
     loop-less
     loop-again
     to-f32-requires

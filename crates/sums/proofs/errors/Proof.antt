@@ -1,104 +1,57 @@
--- `sums::errors` meets its contract. The loop's invariant: the three sums are those over the marked places below i. Assumes nothing.
-use Prim.Native.Nat.{_-_, _≤_, _<_}
-use mathlib.Core.Path.{_≡_, sym, ap₂, _∙_}
+-- `sums::errors` meets its contract. The loop's invariant: the three sums are those over the marked places below i. A turn goes through a stretch. Assumes nothing.
+use Prim.Native.Nat.{_+_, _-_, _*_, _≤_}
+use mathlib.Core.Path.{_≡_}
 use native.Mathlib.Omega.{arith}
 use borrow.Author.Needs.{needs}
-use mathlib.Core.Logic.{⊎-elim}
-use lib.Ieee.{Float, nan}
+use lib.Ieee.{nan}
 use lib.ListN.{getD}
 use Rattle.lists.specs.Lists.{image}
-use Rattle.lists.proofs.Images.{getD-image}
 use Rattle.floats.specs.F32.{_⊖_, _⊗_}
-use Rattle.sums.proofs.Folds.{projTo, proj-none, proj-marked, proj-passed, proj-end, error-at}
+use Rattle.bits.proofs.Stretches.{stretch-further}
+use Rattle.sums.specs.Sums.{errorOf}
+use Rattle.sums.proofs.Folds.{projTo, proj-none, proj-stretch, proj-end, error-at}
 use Rattle.sums.proofs.errors.Statement.{statement}
 use Rattle.sums.proofs.errors.Tie as tie
 
 abbrev Inv-loop : tie.InvT-loop
-Inv-loop part marks n lambda tz iz ep₀ i₀ ep i = (i ≤ n) × (ep ≡ projTo marks n part (λ k. lambda ⊗ getD (image n 3 part) k nan ⊖ getD (image n 4 part) k nan) i)
+Inv-loop part marks n lambda ep₀ i₀ ep i = (i ≤ n) × (ep ≡ projTo marks n part (errorOf n lambda (image n 3 part) (image n 4 part)) i)
 
 abbrev μ-loop : tie.MeasureT-loop
-μ-loop part marks n lambda tz iz ep₀ i₀ ep i = n - i
-
-mul-tz : tie.Need-mul-tz Inv-loop μ-loop
-mul-tz c = search needs
-
-mul-iz : tie.Need-mul-iz Inv-loop μ-loop
-mul-iz c = search needs
+μ-loop part marks n lambda ep₀ i₀ ep i = n - i
 
 loop-holds : tie.Need-loop-holds Inv-loop μ-loop
 loop-holds c = (omega arith, proj-none _ _ _ _)
 
-shared-slice-read-if1 : tie.Need-shared-slice-read-if1 Inv-loop μ-loop
-shared-slice-read-if1 c = search needs
+next-stretch-requires : tie.Need-next-stretch-requires Inv-loop μ-loop
+next-stretch-requires c κs = search needs
 
-add-e : tie.Need-add-e Inv-loop μ-loop
-add-e c = search needs
-
-mul-e : tie.Need-mul-e Inv-loop μ-loop
-mul-e c = search needs
-
-shared-slice-read-e : tie.Need-shared-slice-read-e Inv-loop μ-loop
-shared-slice-read-e c = search needs
-
-add-e-2 : tie.Need-add-e-2 Inv-loop μ-loop
-add-e-2 c = search needs
-
-mul-e-2 : tie.Need-mul-e-2 Inv-loop μ-loop
-mul-e-2 c = search needs
-
-shared-slice-read-e-2 : tie.Need-shared-slice-read-e-2 Inv-loop μ-loop
-shared-slice-read-e-2 c = search needs
-
-j-at-requires : tie.Need-j-at-requires Inv-loop μ-loop
-j-at-requires c κs = search needs
-
-add-scaled-requires : tie.Need-add-scaled-requires Inv-loop μ-loop
-add-scaled-requires c κs = search needs
-
-add-i : tie.Need-add-i Inv-loop μ-loop
-add-i c = search needs
+errors-stretch-requires : tie.Need-errors-stretch-requires Inv-loop μ-loop
+errors-stretch-requires c κs = search needs
 
 loop-less : tie.Need-loop-less Inv-loop μ-loop
-loop-less c = search needs
+loop-less c =
+    let d = c .before in
+    let o = d .next-stretch .ensures in
+    let a = d .before .before .before .before .before .args in
+    omega (arith, stretch-further (a .marks .now) (a .n) (a .n) _ _ (omega arith) o (omega arith), o .high)
 
 loop-again : tie.Need-loop-again Inv-loop μ-loop
 loop-again c =
-    let l = c .before .before .before .loop in
-    let a = c .before .before .before .before .before .before .args in
-    let few : l .i < a .n = omega arith in
-    let xs = a .part .now in (
-      omega arith,
-      ⊎-elim (λ w. w .5 ∙ w .4 .ensures ∙ proj-marked _ _ xs _ (l .i) few (l .ep) (l .inv .1) (w .0 .taken) _ (w .3 .ensures) _ (ap₂ (λ (t z : Float). a .lambda ⊗ t ⊖ z) (sym (getD-image (a .n) 3 (l .i) xs nan few)) (sym (getD-image (a .n) 4 (l .i) xs nan few))))
-          (λ w. w .1 ∙ proj-passed _ _ _ _ (l .i) (l .ep) (l .inv .1) (w .0 .left))
-          (c .if1 .came),
+    let d = c .before in
+    let l = d .before .before .loop in
+    let a = d .before .before .before .before .before .args in
+    let n = a .n in
+    let xs = a .part .now in
+    let o = d .next-stretch .ensures in (
+      o .high,
+      proj-stretch (a .marks .now) n xs (errorOf n (a .lambda) (image n 3 xs) (image n 4 xs)) (λ k. a .lambda ⊗ getD xs (3 * n + k) nan ⊖ getD xs (4 * n + k) nan) (error-at n xs (a .lambda)) (l .i) (d .next-stretch .result) o (l .ep) _ (l .inv .1) (c .errors-stretch .ensures),
     )
 
 returns : tie.Need-returns Inv-loop μ-loop
 returns c =
     let l = c .before .loop in
-    let a = c .before .before .before .before .args in
-    let e : l .i ≡ a .n = omega arith in
-    proj-end _ _ _ _ (l .ep) (rw e at (l .inv .1)) _ (λ i h. error-at (a .n) (a .lambda) _ _ i h)
+    let e : l .i ≡ c .before .before .before .before .args .n = omega arith in
+    proj-end _ _ _ _ (l .ep) (rw e at (l .inv .1))
 
 pub errors-spec : {M : Type 1} → statement M
-errors-spec =
-    tie.close
-    (tie.spec
-    Inv-loop
-    μ-loop
-    mul-tz
-    mul-iz
-    loop-holds
-    shared-slice-read-if1
-    add-e
-    mul-e
-    shared-slice-read-e
-    add-e-2
-    mul-e-2
-    shared-slice-read-e-2
-    j-at-requires
-    add-scaled-requires
-    add-i
-    loop-less
-    loop-again
-    returns)
+errors-spec = tie.close (tie.spec Inv-loop μ-loop loop-holds next-stretch-requires errors-stretch-requires loop-less loop-again returns)

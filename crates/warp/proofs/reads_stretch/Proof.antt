@@ -1,18 +1,19 @@
--- `warp::reads_row` meets its contract. Assumes nothing.
-use Prim.Native.Nat.{_-_}
+-- `warp::reads_stretch` meets its contract. Assumes nothing.
+use Prim.Native.Nat.{_+_, _-_}
 use native.Mathlib.Omega.{arith}
 use borrow.Author.Needs.{needs}
 use denote.Ref.{now}
 use lib.ListN.{length-set}
-use Rattle.warp.proofs.Rows.{ReadsHeld, reads-start, reads-turn, reads-end}
-use Rattle.warp.proofs.reads_row.Statement.{statement}
-use Rattle.warp.proofs.reads_row.Tie as tie
+use Rattle.warp.proofs.Rows.{StretchHeld, stretch-start, stretch-end, taken, taken-turn}
+use Rattle.warp.proofs.reads_stretch.Statement.{statement}
+use Rattle.warp.proofs.reads_stretch.Tie as tie
 
 abbrev Inv-loop : tie.InvT-loop
-Inv-loop part₀ marks spots across down w n row first second third x₀ part x = ReadsHeld n w row marks spots across down part₀ part x
+Inv-loop part₀ spots across down w n at from to first second third x₀ part x =
+    StretchHeld n (at + from) from to (taken n w at from to spots across down part₀) part₀ part x
 
 abbrev μ-loop : tie.MeasureT-loop
-μ-loop part₀ marks spots across down w n row first second third x₀ part x = w - x
+μ-loop part₀ spots across down w n at from to first second third x₀ part x = to - x
 
 mul-first : tie.Need-mul-first Inv-loop μ-loop
 mul-first c = search needs
@@ -34,14 +35,8 @@ add-third c = search needs
 
 loop-holds : tie.Need-loop-holds Inv-loop μ-loop
 loop-holds c =
-    let a = c .before .before .before .before .before .args in
-    reads-start (a .n) (a .w) (a .row) (now (a .marks)) (now (a .spots)) (now (a .across)) (now (a .down)) (now (a .part)) (omega arith)
-
-add-marked : tie.Need-add-marked Inv-loop μ-loop
-add-marked c = search needs
-
-shared-slice-read-marked : tie.Need-shared-slice-read-marked Inv-loop μ-loop
-shared-slice-read-marked c = search needs
+    let a = c .before .before .before .before .args in
+    stretch-start (a .n) (a .at + a .from) (a .from) (a .to) _ (now (a .part)) (omega arith)
 
 mul-wide : tie.Need-mul-wide Inv-loop μ-loop
 mul-wide c = search needs
@@ -66,9 +61,9 @@ shared-slice-read-mix-2 c = search needs
 
 mix-requires : tie.Need-mix-requires Inv-loop μ-loop
 mix-requires c κs =
-    let l = c .before .before .before .before .before .before .before in
-    let s = l .before .before .before .before .before .before in
-    (omega (arith, l .loop .inv .part-length), λ e. omega (arith, c .before .before .wide .ensures, s .pre .4 .reach (l .loop .x) (omega arith) e))
+    let l = c .before .before .before .before .before .before .loop in
+    let s = c .before .before .before .before .before .before .before .before .before .before .before in
+    (omega (arith, l .inv .part-length), omega (arith, c .before .before .wide .ensures, s .pre .6 (l .x) (l .inv .low) (omega arith)))
 
 add-part : tie.Need-add-part Inv-loop μ-loop
 add-part c = search needs
@@ -105,22 +100,22 @@ loop-less c = search needs
 
 loop-again : tie.Need-loop-again Inv-loop μ-loop
 loop-again c =
-    let l = c .before .before .before .before .before .before .before .before in
-    let i = l .loop in
-    let a = l .before .before .before .before .before .before .args in
-    reads-turn (a .n) (a .w) (a .row) (now (a .marks)) (now (a .spots)) (now (a .across)) (now (a .down)) (now (a .part)) (omega arith) (i .part) (i .x) (c .before .before .before .wide .result) (c .mix .result) (omega arith) (i .inv) (c .before .before .before .wide .ensures) (c .mix .ensures)
+    let l = c .before .before .before .before .before .before .before .loop in
+    let a = c .before .before .before .before .before .before .before .before .before .before .before .before .args in
+    let w = c .before .before .before .wide in
+    taken-turn (a .n) (a .w) (a .at) (a .from) (a .to) (now (a .spots)) (now (a .across)) (now (a .down)) (now (a .part)) (omega arith) (l .part) (l .x) (w .result) (c .mix .result) (omega arith) (l .inv) (w .ensures) (c .mix .ensures)
 
 same-length : tie.Need-same-length Inv-loop μ-loop
 same-length c = search needs
 
 returns : tie.Need-returns Inv-loop μ-loop
 returns c =
-    let i = c .before .loop in
-    let a = c .before .before .before .before .before .before .before .args in
-    reads-end (a .n) (a .w) (a .row) (now (a .marks)) (now (a .spots)) (now (a .across)) (now (a .down)) (now (a .part)) (omega arith) (i .part) (i .x) (omega arith) (i .inv)
+    let l = c .before .loop in
+    let a = c .before .before .before .before .before .before .args in
+    stretch-end (a .n) (a .at + a .from) (a .from) (a .to) _ (now (a .part)) (omega arith) (l .part) (l .x) (omega (arith, l .inv .bound)) (l .inv)
 
-pub reads-row-spec : {M : Type 1} → statement M
-reads-row-spec =
+pub reads-stretch-spec : {M : Type 1} → statement M
+reads-stretch-spec =
     tie.close
     (tie.spec
     Inv-loop
@@ -132,8 +127,6 @@ reads-row-spec =
     mul-third
     add-third
     loop-holds
-    add-marked
-    shared-slice-read-marked
     mul-wide
     shared-slice-read-wide
     wide-requires
