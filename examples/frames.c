@@ -3,10 +3,11 @@
 
 #include "quayhollow.h"
 
-enum { W = 64, H = 48, EDGE = 40, WORK = 12 * 40 * 30, MARKS = 40 * 30 };
+enum { W = 64, H = 48, EDGE = 40, WORK = 12 * 40 * 30, MARKS = (40 * 30 + 63) / 64 };
 
-static uint8_t first[W * H], second[W * H], store[W * H], marks[MARKS];
+static uint8_t first[W * H], second[W * H], store[W * H];
 static float work[WORK];
+static uint64_t marks[MARKS];
 
 /* A number that goes up to 16 and down again, each 32. */
 static size_t tent(size_t t)

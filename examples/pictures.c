@@ -21,7 +21,8 @@ struct picture {
 /* What an aligner keeps and works in. It grows with the frames. */
 struct aligner {
     uint64_t state[QUAYHOLLOW_STATE_LEN];
-    uint8_t *store, *marks;
+    uint8_t *store;
+    uint64_t *marks;
     float *work;
     size_t store_len, work_len, marks_len;
 };

@@ -5,11 +5,11 @@
  * and what it hands back and leaves in the lent memory is settled for every input.
  *
  * Nothing is allocated and nothing is kept between calls: what is lent stays the caller's. What the caller sees to:
- *   - a pointer leads to as many elements as its count says, and is aligned for them; it may be null where the count is 0;
+ *   - a pointer leads to as many elements as its count says and is aligned for them, marks for uint64_t; it may be null where the count is 0;
  *   - memory that a call may write overlaps no other memory lent to the same call, and no other call uses it meanwhile;
  *   - floats are rounded to nearest, ties to even, as when a program starts: under another rounding mode other answers come.
  * Calls may run at the same time. Frames that are only read may be shared between them. quayhollow_align and quayhollow_estimate take less
- * than 100 KiB of stack (measured on x86-64). The archive needs memset from outside, and nothing else.
+ * than 56 KiB of stack (measured on x86-64). The archive needs memset from outside, and nothing else.
  *
  * At start compare quayhollow_version() with QUAYHOLLOW_VERSION: they differ where archive and header do not belong together.
  *
@@ -32,7 +32,7 @@
  *    1   a side is 0; a frame's length is not w * h; filter 0 or even             0
  *    2   a side above 4,096                                                       0
  *    3   filter above 31 or max_iter above 1,000                                  0
- *    4   work or marks too short                                                  0
+ *    4   work or marks too short: marks are lent in words of 64, a bit a pixel    0
  *    5   under 16 pixels of the warped input lie inside it                        warps done, as for 6 to 10
  *    6   a frame is flat: its norm is at most 1e-6. Not every flat frame ends so: where its mean is rounded the norm is larger, and then a
  *        flat input ends with 8, a flat template with 5, 9, 10 or a pose
@@ -44,8 +44,8 @@
  *   12   quayhollow_estimate: the previous frame has other sides                  0
  *   13   quayhollow_estimate: store shorter than w * h                            0
  *
- * With 0 and 5 to 10 the first quayhollow_work_len floats of work are +0 afterwards and the first quayhollow_marks_len marks 0; the rest is
- * as it was. With 1 to 4 and 11 to 13 all of work and marks is as it was.
+ * With 0 and 5 to 10 the first quayhollow_work_len floats of work are +0 afterwards and the first quayhollow_marks_len words of marks 0,
+ * every bit of them; the rest is as it was. With 1 to 4 and 11 to 13 all of work and marks is as it was.
  */
 #ifndef QUAYHOLLOW_H
 #define QUAYHOLLOW_H
@@ -58,7 +58,7 @@ extern "C" {
 #endif
 
 /* What quayhollow_version() answers where the archive belongs to this header. It goes up with every change of a function's parameters. */
-#define QUAYHOLLOW_VERSION 2
+#define QUAYHOLLOW_VERSION 3
 
 /* The numbers. */
 #define QUAYHOLLOW_POSE 0
@@ -138,8 +138,8 @@ static inline const char *quayhollow_words(uint8_t number)
 uint32_t quayhollow_version(void);
 
 /*
- * How many elements of work and marks frames of w by h need with this edge, and how many bytes of store. With n the number of pixels after
- * resizing these are 12n, n and w * h. 0 for a side that is 0 or above 4,096.
+ * How many floats of work and words of marks frames of w by h need with this edge, and how many bytes of store. With n the number of pixels
+ * after resizing these are 12n, n / 64 rounded up, and w * h. 0 for a side that is 0 or above 4,096.
  */
 size_t quayhollow_work_len(size_t w, size_t h, size_t edge);
 size_t quayhollow_marks_len(size_t w, size_t h, size_t edge);
@@ -154,7 +154,8 @@ size_t quayhollow_store_len(size_t w, size_t h);
  *   filter             the width of the blur, odd, 1 to 31; 1 for none
  *   edge               where the longer side exceeds it, the frames are first resized: the longer side becomes edge, the other goes in
  *                      proportion, and neither is below 8; 0 for no resizing
- *   work, marks        room to work in, as quayhollow_work_len and quayhollow_marks_len say: what they hold before plays no part
+ *   work, marks        room to work in: at least quayhollow_work_len floats and quayhollow_marks_len words of 64 bits (marks_len counts
+ *                      words). What they hold before plays no part
  *   pose               its first four numbers become theta, tx, ty, rho, or four zeros for a number other than 0; as it was if it has
  *                      fewer than four
  */
@@ -171,7 +172,7 @@ uint32_t quayhollow_align(
     size_t edge,
     float *work,
     size_t work_len,
-    uint8_t *marks,
+    uint64_t *marks,
     size_t marks_len,
     float *pose,
     size_t pose_len);
@@ -233,7 +234,7 @@ uint32_t quayhollow_estimate(
     size_t store_len,
     float *work,
     size_t work_len,
-    uint8_t *marks,
+    uint64_t *marks,
     size_t marks_len,
     float *pose,
     size_t pose_len);

@@ -17,14 +17,14 @@
 //!
 //! include/quayhollow.h says what every number means and what a caller sees to; the names are the same here. `align` and `estimate` work in memory
 //! that the caller lends and allocate nothing. `Room` and `Aligner` hold that memory, and their `new` panics where the archive has another version
-//! than this file. A call takes less than 100 KiB of stack (measured on x86-64).
+//! than this file. A call takes less than 56 KiB of stack (measured on x86-64).
 #![allow(dead_code)]
 
 use std::fmt;
 use std::num::NonZeroU8;
 
 /// What `version()` answers where the archive belongs to this file.
-pub const VERSION: u32 = 2;
+pub const VERSION: u32 = 3;
 
 /// The largest side, filter and max_iter.
 pub const MOST_SIDE: usize = 4096;
@@ -211,7 +211,7 @@ pub fn work_len(w: usize, h: usize, edge: usize) -> usize {
     unsafe { raw::quayhollow_work_len(w, h, edge) }
 }
 
-/// How many marks.
+/// How many words of marks: a bit for each pixel after resizing, sixty-four to a word.
 pub fn marks_len(w: usize, h: usize, edge: usize) -> usize {
     // SAFETY: it takes numbers alone
     unsafe { raw::quayhollow_marks_len(w, h, edge) }
@@ -224,7 +224,7 @@ pub fn store_len(w: usize, h: usize) -> usize {
 }
 
 /// Aligns the input with the template, two frames of w by h.
-pub fn align(template: &[u8], input: &[u8], w: usize, h: usize, settings: Settings, work: &mut [f32], marks: &mut [u8]) -> Outcome {
+pub fn align(template: &[u8], input: &[u8], w: usize, h: usize, settings: Settings, work: &mut [f32], marks: &mut [u64]) -> Outcome {
     let mut pose = [0.0; 4];
     // SAFETY: each slice goes with its own length, and those that are written are borrowed for writing, so they overlap none
     let code = unsafe {
@@ -264,7 +264,7 @@ pub fn estimate(
     state: &mut State,
     store: &mut [u8],
     work: &mut [f32],
-    marks: &mut [u8],
+    marks: &mut [u64],
 ) -> Outcome {
     let mut pose = [0.0; 4];
     // SAFETY: each slice goes with its own length, and those that are written are borrowed for writing, so they overlap none
@@ -297,7 +297,7 @@ pub fn estimate(
 #[derive(Clone, Debug)]
 pub struct Room {
     work: Vec<f32>,
-    marks: Vec<u8>,
+    marks: Vec<u64>,
 }
 
 impl Room {
@@ -361,7 +361,7 @@ mod raw {
             edge: usize,
             work: *mut f32,
             work_len: usize,
-            marks: *mut u8,
+            marks: *mut u64,
             marks_len: usize,
             pose: *mut f32,
             pose_len: usize,
@@ -386,7 +386,7 @@ mod raw {
             store_len: usize,
             work: *mut f32,
             work_len: usize,
-            marks: *mut u8,
+            marks: *mut u64,
             marks_len: usize,
             pose: *mut f32,
             pose_len: usize,

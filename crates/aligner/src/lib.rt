@@ -96,7 +96,7 @@ fn answer(
     h: usize,
     store: &[u8],
     work: &mut [f32],
-    marks: &mut [u8],
+    marks: &mut [u64],
 ) -> Outcome
     requires { ⌜ (w ≤ 4096) × (h ≤ 4096) × (w * h ≤ length (now store)) ⌝ }
     ensures { λ r. ⌜ r ≡ answerOf aligner (now (frame .entry)) w h (now (store .entry)) (length (now (work .entry))) (length (now (marks .entry))) ⌝ }
@@ -132,7 +132,7 @@ pub fn estimate(
     h: usize,
     store: &mut [u8],
     work: &mut [f32],
-    marks: &mut [u8],
+    marks: &mut [u64],
 ) -> Reply
     ensures { λ r. ⌜
         r ≡ estimateOf aligner (now (frame .entry)) w h (now (store .entry)) (length (now (work .entry))) (length (now (marks .entry)))

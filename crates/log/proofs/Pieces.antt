@@ -102,7 +102,7 @@ answers k m (p ∷ ps) st store s =
 
 pub whole : NothingElse
 unfolding outcome logOf pick
-whole store size ps l r = read-right 12288 1024 r ∙ any-store 12288 1024 defaultsOf store (tab 1024 (λ _. 0)) (size ∙ sym (length-tab 1024 (λ _. 0))) 0 (all ps)
+whole store size ps l r = read-right 12288 16 r ∙ any-store 12288 16 defaultsOf store (tab 1024 (λ _. 0)) (size ∙ sym (length-tab 1024 (λ _. 0))) 0 (all ps)
 
 pub printed : LogIsPrinted
-printed store size ps = let a = answers 12288 1024 ps firstState store [] in subst (Reads 12288 1024 firstState store [] ps) (whole store size ps (a .0) (a .1)) (a .1)
+printed store size ps = let a = answers 12288 16 ps firstState store [] in subst (Reads 12288 16 firstState store [] ps) (whole store size ps (a .0) (a .1)) (a .1)

@@ -55,4 +55,4 @@ logFrom work marks a store f s = logN work marks (suc (length s)) a store f s
 
 -- THE LOG of a whole stream: the defaults, nothing remembered, no frame; 12,288 floats, 1,024 marks, a store of 1,024 bytes
 unfoldable pub logOf : List ℕ → Log
-logOf s = logFrom 12288 1024 (freshOf defaultsOf) (tab 1024 (λ _. 0)) 0 s
+logOf s = logFrom 12288 16 (freshOf defaultsOf) (tab 1024 (λ _. 0)) 0 s

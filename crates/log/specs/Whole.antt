@@ -18,8 +18,8 @@ EveryReading = (work marks : ℕ) (ps : List (List ℕ)) (st : State) (store s :
 
 -- THE PROGRAM, from its first state, with 12,288 floats, 1,024 marks and any store of 1,024 bytes: of any pieces the log of all their bytes is printed ..
 abbrev pub LogIsPrinted : Type 0
-LogIsPrinted = (store : List ℕ) → length store ≡ 1024 → (ps : List (List ℕ)) → Reads 12288 1024 firstState store [] ps (logOf (all ps))
+LogIsPrinted = (store : List ℕ) → length store ≡ 1024 → (ps : List (List ℕ)) → Reads 12288 16 firstState store [] ps (logOf (all ps))
 
 -- .. and nothing else
 abbrev pub NothingElse : Type 0
-NothingElse = (store : List ℕ) → length store ≡ 1024 → (ps : List (List ℕ)) (l : Log) → Reads 12288 1024 firstState store [] ps l → l ≡ logOf (all ps)
+NothingElse = (store : List ℕ) → length store ≡ 1024 → (ps : List (List ℕ)) (l : Log) → Reads 12288 16 firstState store [] ps l → l ≡ logOf (all ps)

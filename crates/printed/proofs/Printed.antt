@@ -88,12 +88,12 @@ module _ (k m : ℕ) (held : List ℕ) where
 -- ---- the end, with document 01's memory
 
 module _ (held : List ℕ) (size : length held ≡ 1024) where
-  told-whole : {ps : List (List ℕ)} (qs : List (List ℕ)) {w v : List ℕ} → Told 12288 1024 held ps w → all ps ≡ all qs → v ≡ w → v ≡ printedOf (all qs)
+  told-whole : {ps : List (List ℕ)} (qs : List (List ℕ)) {w v : List ℕ} → Told 12288 16 held ps w → all ps ≡ all qs → v ≡ w → v ≡ printedOf (all qs)
   told-whole {ps} qs t p v = v ∙ sym (t .text) ∙ ap bytesOf (whole held size ps (t .log) (t .read)) ∙ ap printedOf p
 
-  module _ (run r : Run) (buf buf′ out out′ store store′ w : List ℕ) (ps : List (List ℕ)) (g : Goes 12288 1024 held run buf out store w ps) (fits : run .end ≤ length buf) where
+  module _ (run r : Run) (buf buf′ out out′ store store′ w : List ℕ) (ps : List (List ℕ)) (g : Goes 12288 16 held run buf out store w ps) (fits : run .end ≤ length buf) where
     abbrev last-step : Step
-    last-step = stepOf (run .state) (pending run buf) store 12288 1024
+    last-step = stepOf (run .state) (pending run buf) store 12288 16
 
     -- a turn after which the run does not go on, and the last line
     stops-at : (e : Event) → last-step .event ≡ e → turnedBy run r last-step buf buf′ out out′ e → r .«is_going» ≡ false
@@ -110,18 +110,18 @@ module _ (held : List ℕ) (size : length held ≡ 1024) where
     stops-at event.Quiet q t h = absurd (true≢false (sym (t .3) ∙ h))
     stops-at (event.Print a) q t h = absurd (true≢false (sym (t .2) ∙ h))
     stops-at event.Broken q t h =
-        let b = broken-stays 12288 1024 (run .state) store (pending run buf) q in
+        let b = broken-stays 12288 16 (run .state) store (pending run buf) q in
         let l : endOf (r .state) (r .end - r .at) ≡ endOf (run .state) (length (pending run buf)) =
         let y : r .end - r .at ≡ length (pending run buf) = omega (arith, t .0 .start, t .0 .end, b .0, hand-length run buf fits) in
         rw (t .0 .state, b .1, y) in
         told-whole (ps ++ []) (g [] _ (breaks q)) refl (rw (append-nil w, t .1, t .2, l))
 
   -- the turns, and what waits before the last line
-  stopped : {n : ℕ} {bytes text : List ℕ} {r : Run} {buf out store w : List ℕ} {ps : List (List ℕ)} → Turns 12288 1024 bytes text held n r buf out store w ps → r .«is_going» ≡ false
+  stopped : {n : ℕ} {bytes text : List ℕ} {r : Run} {buf out store w : List ℕ} {ps : List (List ℕ)} → Turns 12288 16 bytes text held n r buf out store w ps → r .«is_going» ≡ false
       → w ++ (take (r .put) out ++ lastOf (endOf (r .state) (r .end - r .at))) ≡ printedOf (all ps)
   stopped none h = absurd (true≢false h)
   stopped {bytes = bytes} {text = text} (further {run = run} {r = r} {buf = buf} {buf′ = buf′} {out = out} {out′ = out′} {store = store} {store′ = store′} {w = w} {ps = ps} t g x y) h =
-      stops-at run r buf buf′ out out′ store store′ w ps (goes 12288 1024 held bytes text t g) (within 12288 1024 held bytes text t) (stepOf (run .state) (pending run buf) store 12288 1024 .event) refl (y .followed .turned) h
+      stops-at run r buf buf′ out out′ store store′ w ps (goes 12288 16 held bytes text t g) (within 12288 16 held bytes text t) (stepOf (run .state) (pending run buf) store 12288 16 .event) refl (y .followed .turned) h
 
 -- THE THEOREM
 pub prints-the-log : PrintsTheLog

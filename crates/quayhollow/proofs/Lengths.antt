@@ -7,6 +7,7 @@ use native.Mathlib.Omega.{arith}
 use borrow.Author.Tests.{le-ltb, ne-eqb, eqb-true}
 use lib.Dec.{eqb}
 use lib.Ieee.{Float}
+use Rattle.lists.specs.Marked.{wordsFor}
 use Rattle.lists.specs.Premises.{InRange}
 use Rattle.lists.proofs.Cases.{pick-true, pick-false}
 use Rattle.settings.specs.Settings.{edgeOf, lengthOf}
@@ -35,9 +36,9 @@ module _ (eps : Float) (most filter edge : ℕ) where
         ∙ pick-false _ _ _ (ne-eqb w 0 (λ e. omega (arith, e)))
         ∙ pick-false _ _ _ (ne-eqb h 0 (λ e. omega (arith, e))))
 
-    room-told : roomOf (configOf eps most filter edge) w h (12 * pixelCountOf w h edge) (pixelCountOf w h edge) ≡ 0
+    room-told : roomOf (configOf eps most filter edge) w h (12 * pixelCountOf w h edge) (wordsFor (pixelCountOf w h edge)) ≡ 0
     unfolding roomOf
-    room-told = rw pixels-told (pick-false _ _ _ (le-ltb _ _ (le-refl (12 * pixelCountOf w h edge))) ∙ pick-false _ _ _ (le-ltb _ _ (le-refl (pixelCountOf w h edge))))
+    room-told = rw pixels-told (pick-false _ _ _ (le-ltb _ _ (le-refl (12 * pixelCountOf w h edge))) ∙ pick-false _ _ _ (le-ltb _ _ (le-refl (wordsFor (pixelCountOf w h edge)))))
 
 pub lengths-serve : LengthsServe
 lengths-serve eps most filter edge w h sides = record { pixels = pixels-told eps most filter edge w h sides; room = room-told eps most filter edge w h sides }

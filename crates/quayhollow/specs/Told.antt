@@ -4,6 +4,7 @@ use mathlib.Core.Path.{_≡_}
 use mathlib.Core.List.{List}
 use lib.ListN.{length}
 use lib.Ieee.{Float}
+use Rattle.lists.specs.Marked.{wordsFor}
 use Rattle.lists.specs.Premises.{InRange}
 use Rattle.settings.specs.declared.EccConfig.{EccConfig}
 use Rattle.checks.specs.Checks.{sizeOf, roomOf}
@@ -31,7 +32,7 @@ pub record OutcomesSmall : Type 0 where
 -- The lengths told are those by which the alignment checks and clears, and they are room enough
 pub record LengthsTold (eps : Float) (most filter edge w h : ℕ) : Type 0 where
   pub pixels : sizeOf (configOf eps most filter edge) w h ≡ pixelCountOf w h edge
-  pub room : roomOf (configOf eps most filter edge) w h (12 * pixelCountOf w h edge) (pixelCountOf w h edge) ≡ 0
+  pub room : roomOf (configOf eps most filter edge) w h (12 * pixelCountOf w h edge) (wordsFor (pixelCountOf w h edge)) ≡ 0
 
 abbrev pub LengthsServe : Type 0
 LengthsServe = (eps : Float) (most filter edge w h : ℕ) → InRange w h → LengthsTold eps most filter edge w h

@@ -6,6 +6,7 @@
 ghost use mathlib.Core.Path.{_≡_};
 ghost use Prim.Native.Nat.{_*_};
 ghost use lib.ListN.{length};
+ghost use Rattle.lists.specs.Marked.{wordsFor};
 ghost use Rattle.checks.specs.Checks.{sizeOf, checkOf};
 ghost use Rattle.pose.specs.Pose.{matrixOf};
 ghost use Rattle.alignment.specs.Aligned.{alignedOf, Leaves};
@@ -49,9 +50,9 @@ fn remembered(cfg: EccConfig, state: &[u64]) -> EccAligner
 
 #[no_mangle]
 pub extern "C" fn quayhollow_version() -> u32
-    ensures { λ r. ⌜ r ≡ 2 ⌝ }
+    ensures { λ r. ⌜ r ≡ 3 ⌝ }
 {
-    2
+    3
 }
 
 #[no_mangle]
@@ -61,11 +62,12 @@ pub extern "C" fn quayhollow_work_len(w: usize, h: usize, edge: usize) -> usize
     12 * boundary::pixels(w, h, edge)
 }
 
+// How many words, each for the marks of sixty-four pixels.
 #[no_mangle]
 pub extern "C" fn quayhollow_marks_len(w: usize, h: usize, edge: usize) -> usize
-    ensures { λ r. ⌜ r ≡ pixelCountOf w h edge ⌝ }
+    ensures { λ r. ⌜ r ≡ wordsFor (pixelCountOf w h edge) ⌝ }
 {
-    boundary::pixels(w, h, edge)
+    (boundary::pixels(w, h, edge) + 63) / 64
 }
 
 #[no_mangle]
@@ -93,7 +95,7 @@ pub extern "C" fn quayhollow_align(
     filter: usize,
     edge: usize,
     work: &mut [f32],
-    marks: &mut [u8],
+    marks: &mut [u64],
     pose: &mut [f32],
 ) -> u32
     ensures { λ r. ⌜
@@ -157,7 +159,7 @@ pub extern "C" fn quayhollow_estimate(
     state: &mut [u64],
     store: &mut [u8],
     work: &mut [f32],
-    marks: &mut [u8],
+    marks: &mut [u64],
     pose: &mut [f32],
 ) -> u32
     ensures { λ r. ⌜

@@ -19,7 +19,7 @@ pub record Sizes (buf out store work marks : ℕ) : Type 0 where
   pub room : 100 ≤ out
   pub bytes : store ≡ 1024
   pub floats : work ≡ 12288
-  pub marked : marks ≡ 1024
+  pub marked : marks ≡ 16
 
 -- nothing is at hand, and nothing waits
 abbrev pub firstRun : Run
@@ -70,5 +70,5 @@ pub record Logged : Type 0 where
   pub size : length held ≡ 1024
   pub out : List ℕ
   pub waits : ℕ
-  pub finished : Finished 12288 1024 bytes text held out waits
+  pub finished : Finished 12288 16 bytes text held out waits
   pub handed : Handed (take waits out)

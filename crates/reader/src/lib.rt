@@ -98,7 +98,7 @@ fn refill(input: i32, run: Run, buf: &mut [u8], out: &[u8]) -> Run
 }
 
 // One step of the stream over the bytes that are still to be used.
-fn look(run: Run, buf: &[u8], store: &mut [u8], work: &mut [f32], marks: &mut [u8]) -> Step
+fn look(run: Run, buf: &[u8], store: &mut [u8], work: &mut [f32], marks: &mut [u64]) -> Step
     requires { ⌜ (run .at ≤ run .end) × (run .end ≤ length (now buf)) × (run .state .frames < 18446744073709551615) ⌝ }
     ensures { λ r. ⌜
         (r ≡ stepOf (run .state) (pending run (now (buf .entry))) (now (store .entry)) (length (now (work .entry)))
@@ -162,7 +162,7 @@ fn turn(
     out: &mut [u8],
     store: &mut [u8],
     work: &mut [f32],
-    marks: &mut [u8],
+    marks: &mut [u64],
 ) -> Run
     requires { ⌜ Good run (length (now buf)) (length (now out)) ⌝ }
     ensures { λ r. ⌜
@@ -182,12 +182,12 @@ fn turns(
     out: &mut [u8],
     store: &mut [u8],
     work: &mut [f32],
-    marks: &mut [u8],
+    marks: &mut [u64],
 ) -> Run
     requires { ⌜ Sizes (length (now buf)) (length (now out)) (length (now store)) (length (now work)) (length (now marks)) ⌝ }
     ensures { λ r. ⌜
         (r .at ≤ r .end) × (r .put ≤ length (now (out .entry)))
-        × Ran 12288 1024 (now (buf .entry)) (now (out .entry)) (now (store .entry)) r (now (buf .exit)) (now (out .exit))
+        × Ran 12288 16 (now (buf .entry)) (now (out .entry)) (now (store .entry)) r (now (buf .exit)) (now (out .exit))
         (now (store .exit))
         ⌝ }
 {
@@ -224,12 +224,12 @@ fn whole(
     out: &mut [u8],
     store: &mut [u8],
     work: &mut [f32],
-    marks: &mut [u8],
+    marks: &mut [u64],
 ) -> usize
     requires { ⌜ Sizes (length (now buf)) (length (now out)) (length (now store)) (length (now work)) (length (now marks)) ⌝ }
     ensures { λ r. ⌜
         (r ≤ length (now (out .entry)))
-        × Finished 12288 1024 (now (buf .entry)) (now (out .entry)) (now (store .entry)) (now (out .exit)) r
+        × Finished 12288 16 (now (buf .entry)) (now (out .entry)) (now (store .entry)) (now (out .exit)) r
         ⌝ }
 {
     let run = turns(input, buf, out, store, work, marks);
@@ -244,12 +244,12 @@ pub fn log(input: i32)
     let mut text = io::large_buffer();
     let mut held = [0u8; 1024];
     let mut floats = [0.0f32; 12288];
-    let mut marked = [0u8; 1024];
+    let mut marked = [0u64; 16];
     let buf: &mut [u8] = &mut bytes;
     let out: &mut [u8] = &mut text;
     let store: &mut [u8] = &mut held;
     let work: &mut [f32] = &mut floats;
-    let marks: &mut [u8] = &mut marked;
+    let marks: &mut [u64] = &mut marked;
     let waits = whole(input, buf, out, store, work, marks);
     ports::flush(out, waits);
 }

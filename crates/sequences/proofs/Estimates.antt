@@ -12,7 +12,7 @@ use lib.Ieee.Fits.{and-l, and-r}
 use lib.ListN.{length, take, drop}
 use lib.Seq.{length-take-le}
 use Rattle.lists.specs.Lists.{tab, put}
-use Rattle.lists.specs.Marked.{pick}
+use Rattle.lists.specs.Marked.{pick, wordsFor}
 use Rattle.lists.proofs.Cases.{choose, either, pick-both}
 use Rattle.lists.proofs.Every.{every}
 use Rattle.lists.proofs.Fill.{front-is}
@@ -172,17 +172,17 @@ module _ (x : CallMemory) (frame : List ℕ) (w h : ℕ) where
 
   -- past all checks
   begun-ends : (o : Outcome) → entryOf t w h (length (x .store)) ≡ 0 → checkOf (w * h) t w h (x .aligner .cfg) k m ≡ 0 → o .passes ≤ x .aligner .cfg .«max_iter» → Late FiveToTen (o .answer) →
-      EstimateEnded frame w h o x (takenAs (put (x .work) 0 (tab (12 * n) (λ _. 0f))) (put (x .marks) 0 (tab n (λ _. 0))))
+      EstimateEnded frame w h o x (takenAs (put (x .work) 0 (tab (12 * n) (λ _. 0f))) (put (x .marks) 0 (tab (wordsFor n) (λ _. 0))))
   begun-ends o e c few late =
       let l = late-told fits (o .answer) late in
       let p = past (w * h) t w h (x .aligner .cfg) k m c in
-      let y = takenAs (put (x .work) 0 (tab (12 * n) (λ _. 0f))) (put (x .marks) 0 (tab n (λ _. 0))) in
+      let y = takenAs (put (x .work) 0 (tab (12 * n) (λ _. 0f))) (put (x .marks) 0 (tab (wordsFor n) (λ _. 0))) in
       record {
         answer = l .0;
         few = few;
         no-pass = λ z. absurd (true≢false (sym (l .1) ∙ z));
         did = subst (λ (z : Effect). Did z frame w h x y) (sym (l .2))
-            (is-kept e _ _, (p .work-fits, front-is (x .work) (12 * n) 0f), (p .marks-fit, front-is (x .marks) n 0));
+            (is-kept e _ _, (p .work-fits, front-is (x .work) (12 * n) 0f), (p .marks-fit, front-is (x .marks) (wordsFor n) 0));
       }
 
   -- THE THEOREM, of the definitions that the contract of `estimate` cites

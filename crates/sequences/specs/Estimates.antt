@@ -10,6 +10,7 @@ use lib.ListN.{length, drop}
 use lib.Ieee.{Float}
 use Rattle.lists.specs.Marked.{pick}
 use Rattle.floats.specs.F32.{0f}
+use Rattle.lists.specs.Marked.{wordsFor}
 use Rattle.checks.specs.Checks.{sizeOf}
 use Rattle.pose.specs.Pose.{numberOf}
 use Rattle.pose.specs.declared.Outcome.{Outcome}
@@ -85,7 +86,7 @@ pub record FrameKept (frame : List ℕ) (w h : ℕ) (x y : CallMemory) : Type 0 
 abbrev pub Did : Effect → List ℕ → ℕ → ℕ → CallMemory → CallMemory → Type 0
 Did untouched frame w h x y = y ≡ x
 Did kept frame w h x y = FrameKept frame w h x y × (y .work ≡ x .work) × (y .marks ≡ x .marks)
-Did cleared frame w h x y = let n = sizeOf (x .aligner .cfg) w h in FrameKept frame w h x y × Cleared (12 * n) 0f (x .work) (y .work) × Cleared n 0 (x .marks) (y .marks)
+Did cleared frame w h x y = let n = sizeOf (x .aligner .cfg) w h in FrameKept frame w h x y × Cleared (12 * n) 0f (x .work) (y .work) × Cleared (wordsFor n) 0 (x .marks) (y .marks)
 
 -- the end of a call, with x before and y after it
 pub record EstimateEnded (frame : List ℕ) (w h : ℕ) (o : Outcome) (x y : CallMemory) : Type 0 where

@@ -65,4 +65,4 @@ module _ (k : ℕ) (free : T (not (given k))) where
 
 pub log-never : LogNeverSeven
 unfolding logOf logFrom
-log-never s b = log-other _ tt 12288 1024 (suc (length s)) (freshOf defaultsOf) _ 0 s (bytes-zeros 1024) b
+log-never s b = log-other _ tt 12288 16 (suc (length s)) (freshOf defaultsOf) _ 0 s (bytes-zeros 1024) b

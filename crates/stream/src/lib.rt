@@ -126,7 +126,7 @@ fn answer(
     size: usize,
     store: &mut [u8],
     work: &mut [f32],
-    marks: &mut [u8],
+    marks: &mut [u64],
 ) -> Step
     requires { ⌜ (state .frames < 18446744073709551615) × (10 + size ≤ length (now s)) ⌝ }
     ensures { λ r. ⌜
@@ -169,7 +169,13 @@ fn skip(state: State, n: usize, large: bool) -> Step
 }
 
 // What to do with the bytes at hand.
-pub fn advance(state: State, s: &[u8], store: &mut [u8], work: &mut [f32], marks: &mut [u8]) -> Step
+pub fn advance(
+    state: State,
+    s: &[u8],
+    store: &mut [u8],
+    work: &mut [f32],
+    marks: &mut [u64],
+) -> Step
     requires { ⌜ state .frames < 18446744073709551615 ⌝ }
     ensures { λ r. ⌜
         (r ≡ stepOf state (now (s .entry)) (now (store .entry)) (length (now (work .entry))) (length (now (marks .entry))))

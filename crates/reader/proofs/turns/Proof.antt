@@ -15,7 +15,7 @@ abbrev Inv-loop : tie.InvT-loop
 Inv-loop input buf₀ out₀ store₀ work₀ marks₀ run₀ left₀ buf out store work marks run left =
     (run .at ≤ run .end) × (run .end ≤ length buf) × (run .put ≤ length out) × (run .state .frames + left ≤ 18446744073709551615)
     × (length buf ≡ length buf₀) × (length out ≡ length out₀) × (length store ≡ length store₀) × (length work ≡ length work₀) × (length marks ≡ length marks₀)
-    × Counted 12288 1024 buf₀ out₀ store₀ left run buf out store
+    × Counted 12288 16 buf₀ out₀ store₀ left run buf out store
 
 abbrev μ-loop : tie.MeasureT-loop
 μ-loop input buf₀ out₀ store₀ work₀ marks₀ run₀ left₀ buf out store work marks run left = left
@@ -27,7 +27,7 @@ loop-holds : tie.Need-loop-holds Inv-loop μ-loop
 loop-holds c =
     let a = c .before .before .before .before .before .before .args in
     let f = ap (λ (s : State). s .frames) (c .fresh .ensures) in
-    (omega arith, omega arith, omega arith, omega (arith, f), refl, refl, refl, refl, refl, counted-none 12288 1024 (now (a .buf)) (now (a .out)) (now (a .store)) (c .fresh .result) (c .fresh .ensures))
+    (omega arith, omega arith, omega arith, omega (arith, f), refl, refl, refl, refl, refl, counted-none 12288 16 (now (a .buf)) (now (a .out)) (now (a .store)) (c .fresh .result) (c .fresh .ensures))
 
 turn-requires : tie.Need-turn-requires Inv-loop μ-loop
 turn-requires c κs = let p = c .before .before .before .before .before .before .before .before .before .before .before .before .before .before .pre in let i = c .before .before .before .before .before .before .before .loop .inv in let t = c .before .before .before .before .before .before .loop-test .taken in record { start = i .0; end = i .1; waits = i .2; holds = omega (arith, p .holds, i .4); room = omega (arith, p .room, i .5); frames = omega (arith, i .3, t) }
