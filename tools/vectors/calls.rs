@@ -2,7 +2,8 @@
 //! stand by their bit patterns. tools/vectors/make runs it; how many calls end with each number is told on standard error.
 //!
 //! Document 01's cases 2 and 10, where they have no star, are on the list: filter 33 (`refused_settings`), filter 31 taken (`settings`),
-//! a side of 4,096 taken and one of 4,097 refused by 2 (`limits`), 12n-1 floats refused by 4 (`refused_room`).
+//! a side of 4,096 taken and one of 4,097 refused by 2 (`limits`), 12n-1 floats refused by 4 (`refused_room`). Marks are lent in words of
+//! sixty-four (document 02, request 5); pixels at, just below and just above a whole word are in `whole_words`.
 //!
 //! What is not on the list. Number 7 can't be had: prepared pixels stay below 2^22, so both norms are finite, and their product is no zero
 //! once each is above 1e-6. Number 9 is here by lambda_d <= 0 and number 10 by theta outside -2..2. Nine million small calls gave none by
@@ -70,10 +71,10 @@ impl Call {
         self
     }
 
-    /// how many floats and marks are lent
+    /// how many floats and words of marks are lent
     fn lent(&self) -> (usize, usize) {
         let n = pixels(self.w, self.h, self.cfg.resize_long_edge);
-        self.room.unwrap_or((12 * n + 5, n + 3))
+        self.room.unwrap_or((12 * n + 5, words(n) + 3))
     }
 
     fn ends(&self) -> Outcome {
@@ -106,12 +107,17 @@ fn pixels(w: usize, h: usize, edge: Option<usize>) -> usize {
     side(w) * side(h)
 }
 
-/// document 01: with 0 and 5 to 10 the first 12n floats are +0 and the first n marks 0; with 1 to 4 all stay
+/// document 02's words for n marks, sixty-four to a word: the last may be filled in part
+fn words(n: usize) -> usize {
+    n / 64 + (n % 64 > 0) as usize
+}
+
+/// documents 01 and 02: with 0 and 5 to 10 the first 12n floats are +0 and the words of n marks 0; with 1 to 4 all stay
 fn cleared(number: u8, n: usize) -> [usize; 2] {
     if (1..=4).contains(&number) {
         return [0, 0];
     }
-    [12 * n, n]
+    [12 * n, words(n)]
 }
 
 /// a template and an input between which the frame moved by a pose
@@ -124,10 +130,10 @@ fn limits(s: &mut Stream) -> Vec<Call> {
     let (wide, over) = (s.bytes(4096), s.bytes(4097));
     let (other, dark) = (s.bytes(4096), vec![0; 4096]);
     vec![
-        call(4097, 1, &over, &over).room(12 * 4097, 4097),
-        call(1, 4097, &over, &over).room(12 * 4097, 4097),
-        call(4097, 1, &[], &[]).edge(8).room(2000, 200),
-        call(1, 4097, &[], &[]).room(10, 10),
+        call(4097, 1, &over, &over).room(12 * 4097, 65),
+        call(1, 4097, &over, &over).room(12 * 4097, 65),
+        call(4097, 1, &[], &[]).edge(8).room(2000, 4),
+        call(1, 4097, &[], &[]).room(10, 1),
         call(4097, 0, &[], &[]).filter(0).room(0, 0),
         call(0, 4097, &[1], &[]).filter(33).passes(1001).room(0, 0),
         call(LAST, LAST, &[1], &[1]).room(12, 1),
@@ -136,12 +142,12 @@ fn limits(s: &mut Stream) -> Vec<Call> {
         call(4096, 1, &wide, &other).passes(0),
         call(4096, 1, &wide, &other).filter(31),
         call(1, 4096, &dark, &dark).passes(0),
-        call(1, 4096, &dark, &dark).passes(0).room(12 * 4096 - 1, 4096),
-        call(4096, 1, &dark, &dark).passes(0).room(12 * 4096, 4095),
-        call(1, 4096, &other, &wide).filter(31).room(12 * 4096, 4096),
+        call(1, 4096, &dark, &dark).passes(0).room(12 * 4096 - 1, 64),
+        call(4096, 1, &dark, &dark).passes(0).room(12 * 4096, 63),
+        call(1, 4096, &other, &wide).filter(31).room(12 * 4096, 64),
         call(4096, 1, &wide, &other).edge(350),
         call(1, 4096, &wide, &wide).edge(350).filter(3).eps(-1.0).passes(3),
-        call(16, 256, &wide, &other).filter(31).room(12 * 4096, 4096),
+        call(16, 256, &wide, &other).filter(31).room(12 * 4096, 64),
         call(16, 256, &wide, &wide).edge(255),
         call(1, 1, &[9], &[200]).passes(0),
         call(1, 1, &[9], &[200]).passes(0).room(12, 1),
@@ -159,7 +165,7 @@ fn refused_settings(s: &mut Stream) -> Vec<Call> {
         call(0, 5, &[], &[]),
         call(5, 0, &[], &[]),
         call(0, 0, &[], &[]).filter(33),
-        call(0, 5, &a[..5], &b[..5]).room(60, 5),
+        call(0, 5, &a[..5], &b[..5]).room(60, 1),
         call(6, 5, &a[..29], &b[..30]),
         call(6, 5, &a, &b[..30]),
         call(6, 5, &[], &b[..30]),
@@ -179,18 +185,41 @@ fn refused_settings(s: &mut Stream) -> Vec<Call> {
         all.push(whole().passes(most));
     }
     all.push(whole().filter(33).room(0, 0));
-    all.push(whole().passes(1001).room(359, 29));
+    all.push(whole().passes(1001).room(359, 0));
     all
 }
 
-/// number 4: a float too few, a mark too few, none at all; and just enough, with and without resizing
+/// number 4: a float too few, a word too few, none at all; and just enough, with and without resizing
 fn refused_room(s: &mut Stream) -> Vec<Call> {
     let mut all = Vec::new();
     for (w, h, edge, n) in [(6, 5, 0, 30), (9, 1, 8, 64), (12, 9, 8, 64), (20, 30, 15, 150), (5, 5, 5, 25), (1, 1, 0, 1)] {
         let c = call(w, h, &s.bytes(w * h), &s.bytes(w * h)).edge(edge);
-        for (work, marks) in [(12 * n - 1, n), (12 * n, n - 1), (12 * n - 1, n - 1), (0, n), (12 * n, 0), (12 * n, n), (12 * n + 40, n), (12 * n, n + 40)] {
+        let k = words(n);
+        for (work, marks) in [(12 * n - 1, k), (12 * n, k - 1), (12 * n - 1, k - 1), (0, k), (0, 0), (12 * n, k), (12 * n + 40, k), (12 * n, k + 40)] {
             all.push(c.clone().room(work, marks));
         }
+    }
+    all
+}
+
+/// pixels at, just below and just above one, two and three whole words, and rows that are whole words or a pixel off: a word too few, just
+/// enough, one more. The frames are a texture that moved, noise, flat ones (with passes and with none) and columns; the calls end with 0, 4 to 6
+/// and 8 to 10
+fn whole_words(s: &mut Stream) -> Vec<Call> {
+    let mut all = Vec::new();
+    let mut lend = |c: Call, n: usize| all.extend([words(n) - 1, words(n), words(n) + 1].map(|marks| c.clone().room(12 * n, marks)));
+    for (w, h) in [(9, 7), (8, 8), (13, 5), (127, 1), (16, 8), (43, 3), (1, 191), (24, 8), (193, 1), (64, 1), (64, 2), (64, 5), (128, 3), (63, 4), (65, 4)] {
+        lend(moved(90, w, h, [0.02, 0.4, -0.3]).passes(30), w * h);
+    }
+    for (w, h, edge, n) in [(20, 9, 8, 64), (20, 10, 16, 128), (100, 8, 64, 512), (8, 90, 64, 512)] {
+        lend(moved(90, w, h, [0.0, 0.5, 0.25]).edge(edge), n);
+    }
+    for (w, h) in [(9, 7), (8, 8), (13, 5), (16, 8), (43, 3), (64, 3), (128, 2)] {
+        let n = w * h;
+        let columns: Vec<u8> = (0..n).map(|i| (i % w * 10) as u8).collect();
+        let pairs = [(s.bytes(n), s.bytes(n)), (vec![7; n], vec![7; n]), (columns.clone(), columns)];
+        all.extend(pairs.map(|(a, b)| call(w, h, &a, &b).room(12 * n, words(n) + 1)));
+        all.push(call(w, h, &vec![7; n], &vec![7; n]).passes(0).room(12 * n, words(n) + 1));
     }
     all
 }
@@ -313,7 +342,7 @@ fn settings() -> Vec<Call> {
     all
 }
 
-/// a small call of any kind; a few have a length wrong or a float or a mark too few
+/// a small call of any kind; a few have a length wrong or a float or a word of marks too few
 fn small(s: &mut Stream) -> Call {
     let (w, h) = (5 + s.next() as usize % 8, 5 + s.next() as usize % 8);
     let (a, b) = pair(s, w, h);
@@ -364,8 +393,8 @@ fn rare(s: &mut Stream) -> Vec<Call> {
 fn main() {
     let mut s = Stream(20260104);
     let mut counts = [0; 11];
-    println!("# whole calls: sides, lengths of template and input, eps, max_iter, filter, whether there is an edge, the edge, lengths of work and marks, both frames;");
-    println!("# number, passes, theta, tx, ty, rho, matrix, how many floats and marks from the front are cleared");
+    println!("# whole calls: sides, lengths of template and input, eps, max_iter, filter, whether there is an edge, the edge, lengths of work and marks (floats, words), both frames;");
+    println!("# number, passes, theta, tx, ty, rho, matrix, how many floats and words of marks from the front are cleared");
     let groups = [
         ("sides at their limits", limits(&mut s)),
         ("settings and lengths refused", refused_settings(&mut s)),
@@ -376,6 +405,7 @@ fn main() {
         ("settings", settings()),
         ("rare ends", rare(&mut s)),
         ("small calls", (0..150).map(|_| small(&mut s)).collect()),
+        ("marks at whole words", whole_words(&mut s)),
     ];
     for (name, calls) in groups {
         println!("# {}", name);

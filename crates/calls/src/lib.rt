@@ -9,7 +9,7 @@ ghost use Rattle.lists.specs.Marked.{pick};
 ghost use Rattle.floats.specs.F32.{0f};
 ghost use Rattle.pose.specs.declared.Answer.the-variants.{Posed, Refused};
 ghost use Rattle.words.specs.Words.{storedAt};
-ghost use Rattle.calls.specs.Calls.{edgeAt, settingsAt, floatBefore, workAgrees, marksAgree, answerAgrees, outcomeAgrees, calledAgrees, isWhole, callAgrees};
+ghost use Rattle.calls.specs.Calls.{edgeAt, settingsAt, floatBefore, wordBefore, workAgrees, marksAgree, answerAgrees, outcomeAgrees, calledAgrees, isWhole, callAgrees};
 ghost use Rattle.calls.specs.Pins.{pinAgrees, answerAt, pinsAgree, callsAgree};
 use pose::Answer;
 use pose::Outcome;
@@ -22,6 +22,9 @@ use words::word;
 
 // Where the frames' bytes begin.
 const FRAMES: usize = 12;
+
+// A word of the marks before the call: each of its bits is set.
+const WORD_BEFORE: u64 = 0xffff_ffff_ffff_ffff;
 
 fn edge_at(words: &[u64]) -> LongEdge
     ensures { λ r. ⌜ r ≡ edgeAt (now (words .entry)) ⌝ }
@@ -71,12 +74,12 @@ fn fill_work(work: &mut [f32])
     }
 }
 
-fn fill_marks(marks: &mut [u8])
-    ensures { λ _. ⌜ now (marks .exit) ≡ tab (length (now (marks .entry))) (λ _. 7) ⌝ }
+fn fill_marks(marks: &mut [u64])
+    ensures { λ _. ⌜ now (marks .exit) ≡ tab (length (now (marks .entry))) (λ _. wordBefore) ⌝ }
 {
     let mut i = 0;
     while i < marks.len() {
-        marks[i] = 7;
+        marks[i] = WORD_BEFORE;
         i += 1;
     }
 }
@@ -96,21 +99,21 @@ fn work_agrees(work: &[f32], zeros: u64) -> bool
     all
 }
 
-// What is to be at a place of the marks afterwards.
-fn mark_after(i: usize, zeros: u64) -> u8
-    ensures { λ r. ⌜ r ≡ pick (ltb i zeros) 0 7 ⌝ }
+// What is to be at a place of the words afterwards.
+fn word_after(i: usize, zeros: u64) -> u64
+    ensures { λ r. ⌜ r ≡ pick (ltb i zeros) 0 wordBefore ⌝ }
 {
-    if (i as u64) < zeros { 0 } else { 7 }
+    if (i as u64) < zeros { 0 } else { WORD_BEFORE }
 }
 
-// Whether the first `zeros` marks are 0 and the rest stayed.
-fn marks_agree(marks: &[u8], zeros: u64) -> bool
+// Whether the first `zeros` words are 0 and the rest stayed.
+fn marks_agree(marks: &[u64], zeros: u64) -> bool
     ensures { λ r. ⌜ r ≡ marksAgree zeros (now (marks .entry)) ⌝ }
 {
     let mut all = true;
     let mut i = 0;
     while i < marks.len() {
-        if marks[i] != mark_after(i, zeros) {
+        if marks[i] != word_after(i, zeros) {
             all = false;
         }
         i += 1;
@@ -187,7 +190,7 @@ fn called(
     template: &[u8],
     input: &[u8],
     work: &mut [f32],
-    marks: &mut [u8],
+    marks: &mut [u64],
 ) -> bool
     requires { ⌜ at ≤ 8412 ⌝ }
     ensures { λ r. ⌜ r ≡ calledAgrees (now (words .entry)) at (now (template .entry)) (now (input .entry)) (length (now (work .entry))) (length (now (marks .entry))) ⌝ }
@@ -235,7 +238,7 @@ fn is_whole(words: &[u64]) -> bool
     if word(words, 10) > 50000 {
         return false;
     }
-    if word(words, 11) > 4200 {
+    if word(words, 11) > 80 {
         return false;
     }
     words.len() as u64 == 12 + t + i + 17
@@ -251,11 +254,11 @@ fn call_agrees(words: &[u64]) -> bool
     let t = length_at(words, 3, 4200);
     let i = length_at(words, 4, 4200);
     let k = length_at(words, 10, 50000);
-    let m = length_at(words, 11, 4200);
+    let m = length_at(words, 11, 80);
     let mut template = [0u8; 4200];
     let mut input = [0u8; 4200];
     let mut work = [0.0f32; 50000];
-    let mut marks = [0u8; 4200];
+    let mut marks = [0u64; 80];
     bytes(words, FRAMES, &mut template);
     bytes(words, FRAMES + t, &mut input);
     called(

@@ -48,15 +48,8 @@ module _ (words : List ℕ) (from : ℕ) where
       ∙ ap (λ (j : ℕ). floatOf (storedAt words j)) (sym (add-assoc from (k * n) i))
       ∙ sym (getD-tab n i _ nan a)
 
--- two images, and three, one after another
+-- three images one after another
 module _ {A : Type 0} (n : ℕ) (xs : List A) where
-  pub two-images : take (2 * n) (drop (4 * n) xs) ≡ image n 4 xs ++ image n 5 xs
-  unfolding image
-  two-images =
-      let e : 2 * n ≡ n + n = omega arith in
-      let q : 4 * n + n ≡ 5 * n = omega arith in
-      rw (e, take-add, drop-drop, q)
-
   pub three-images : take (3 * n) (drop (3 * n) xs) ≡ image n 3 xs ++ (image n 4 xs ++ image n 5 xs)
   unfolding image
   three-images =

@@ -1,10 +1,12 @@
 -- When a vector of a part of a pass agrees with the definitions. Definitions only.
 use Prim.Native.Nat.{ℕ, _+_, _*_}
-use mathlib.Core.Bool.{Bool, _&&_}
+use mathlib.Core.Bool.{Bool, true, _&&_}
 use mathlib.Core.List.{List, [], _∷_, _++_}
 use lib.Dec.{leb, eqb}
-use lib.Ieee.{Float}
-use Rattle.marks.specs.Marks.{countOn}
+use lib.ListN.{length, getD}
+use lib.Ieee.{Float, nan}
+use Rattle.lists.specs.Marked.{pick}
+use Rattle.marks.specs.Marks.{on, countOn}
 use Rattle.inverse.specs.Inverse.{inverseOf, entriesOf}
 use Rattle.inverse.specs.declared.Matrix3.{Matrix3}
 use Rattle.inverse.specs.declared.Inverse.{Inverse}
@@ -14,7 +16,7 @@ use Rattle.places.specs.Point.{marksOf}
 use Rattle.warp.specs.Warp.{warpOf}
 use Rattle.stats.specs.Stats.{centredOf, statsOf}
 use Rattle.stats.specs.declared.Stats.{Stats}
-use Rattle.words.specs.Words.{storedAt, floatOf, hasBits, bytesAt, floatsAt, floatsAgree, bytesAgree}
+use Rattle.words.specs.Words.{storedAt, floatOf, hasBits, bytesAt, floatsAt, allBelow, floatsAgree, bytesAgree}
 use Rattle.vectors.specs.Shapes.{isShape}
 use Rattle.vectors.specs.Kinds.{ofKind}
 
@@ -67,13 +69,19 @@ templateAt words n = centredOf (bytesAt words 2 n) n (floatsAt words (2 + 2 * n)
 abbrev pub normsOf : Stats → List Float
 normsOf r = r .«tmp_norm» ∷ r .«img_norm» ∷ r .corr ∷ []
 
--- pixels, marks, image, template; centred template, centred image, norms, correlation
+-- the floats have the bit patterns of the words from `from` on, at the marked places
+unfoldable pub markedAgree : List ℕ → List ℕ → ℕ → List Float → Bool
+markedAgree ms words from xs = allBelow (length xs) (λ i. pick (on ms i) (hasBits (getD xs i nan) (storedAt words (from + i))) true)
+
+-- pixels, marks, image, template; centred template and centred image at the marked pixels, norms, correlation
 unfoldable pub statsAgree : List ℕ → Bool
 statsAgree words =
     let n = storedAt words 1 in
+    let ms = bytesAt words 2 n in
     leb n 1024
-    && floatsAgree words (2 + 3 * n) (templateAt words n ++ imageAt words n)
-    && floatsAgree words (2 + 5 * n) (normsOf (statsOf (bytesAt words 2 n) n (templateAt words n) (imageAt words n)))
+    && (markedAgree ms words (2 + 3 * n) (templateAt words n)
+    && markedAgree ms words (2 + 4 * n) (imageAt words n)
+    && floatsAgree words (2 + 5 * n) (normsOf (statsOf ms n (templateAt words n) (imageAt words n))))
 
 -- 1 and the inverse's entries, or 0, from the word 10 on
 abbrev pub inverseTold : List ℕ → Inverse → Bool

@@ -4,15 +4,20 @@ ghost use mathlib.Core.Bool.{_&&_};
 ghost use Prim.Native.Nat.{_+_, _*_, _≤_};
 ghost use lib.Dec.{eqb};
 ghost use lib.ListN.{length, take, drop};
-ghost use Rattle.marks.specs.Marks.{countOn};
+ghost use Rattle.lists.specs.Lists.{tab, put, image};
+ghost use Rattle.lists.specs.Marked.{wordsFor};
+ghost use Rattle.marks.specs.Marks.{on};
+ghost use Rattle.bits.specs.Words.{wordsOf, unpackedOf};
+ghost use Rattle.bits.specs.Packing.{flagOf};
 ghost use Rattle.words.specs.Words.{storedAt, floatsAgree, bytesAgree};
-ghost use Rattle.vectors.specs.Passes.{mapAt, matrixAt, warpAgrees, statsAgree, inverseAgrees, passAgrees};
+ghost use Rattle.vectors.specs.Passes.{mapAt, matrixAt, warpAgrees, markedAgree, normsOf, statsAgree, inverseAgrees, passAgrees};
 use crate::shapes::sides_at;
 use inverse::Inverse;
 use inverse::Matrix3;
 use words::bytes;
 use words::float;
 use words::floats;
+use words::same;
 use words::same_bytes;
 use words::same_floats;
 use words::word;
@@ -43,7 +48,19 @@ fn told(words: &[u64], n: usize, part: &[f32], marks: &[u8], found: usize) -> bo
     same_bytes(words, 9 + 6 * n, n, marks) && found as u64 == word(words, 9 + 7 * n)
 }
 
-// w, h, the map, three images; three images, marks, their count.
+// The first n marks of the words, a byte each.
+fn unpacked(marks: &[u64], n: usize, out: &mut [u8])
+    requires { ⌜ (n ≤ 1024) × (wordsFor n ≤ length (now marks)) × (n ≤ length (now out)) ⌝ }
+    ensures { λ _. ⌜ now (out .exit) ≡ put (now (out .entry)) 0 (unpackedOf (now (marks .entry)) n) ⌝ }
+{
+    let mut i = 0;
+    while i < n {
+        out[i] = bits::is_marked(marks, i) as u8;
+        i += 1;
+    }
+}
+
+// w, h, the map, three images; three images, marks, their count. What the words of marks held before does not matter.
 fn warped(words: &[u64]) -> bool
     ensures { λ r. ⌜ r ≡ warpAgrees (now (words .entry)) ⌝ }
 {
@@ -53,41 +70,71 @@ fn warped(words: &[u64]) -> bool
     }
     let n = s.n;
     let mut part = [1.0f32; 6144];
-    let mut marks = [1u8; 1024];
-    let mut spots = [0u32; 4096];
-    let mut across = [0.0f32; 4096];
-    let mut down = [0.0f32; 4096];
+    let mut marks = [0xffff_ffff_ffff_ffffu64; 16];
+    let mut out = [1u8; 1024];
     floats(words, 9, 3 * n, &mut part, 0);
-    let found = warp::warp_three_inverse_map(
-        &mut part,
-        &mut marks,
-        map_at(words, 3),
-        s.w,
-        s.h,
-        &mut spots,
-        &mut across,
-        &mut down,
-    );
-    told(words, n, &part, &marks, found)
+    let found = warp::warp_three_inverse_map(&mut part, &mut marks, map_at(words, 3), s.w, s.h);
+    unpacked(&marks, n, &mut out);
+    told(words, n, &part, &out, found)
 }
 
-// How many of the first n marks are on.
-fn count(marks: &[u8], n: usize) -> usize
-    requires { ⌜ (n ≤ length (now marks)) × (n ≤ 1024) ⌝ }
-    ensures { λ r. ⌜ r ≡ countOn (now (marks .entry)) n ⌝ }
+// The flags of the first n marks.
+fn flagged(marks: &[u8], n: usize, flags: &mut [u32])
+    requires { ⌜ (n ≤ length (now marks)) × (n ≤ length (now flags)) ⌝ }
+    ensures { λ _. ⌜ now (flags .exit) ≡ put (now (flags .entry)) 0 (tab n (λ i. flagOf (on (now (marks .entry)) i) i)) ⌝ }
 {
-    let mut found = 0;
     let mut i = 0;
     while i < n {
-        if marks[i] != 0 {
-            found += 1;
+        flags[i] = bits::flag(marks[i] != 0, i);
+        i += 1;
+    }
+}
+
+// The first n marks go into the words, whatever these held before.
+fn packed(marks: &[u8], n: usize, out: &mut [u64])
+    requires { ⌜ (n ≤ 1024) × (n ≤ length (now marks)) × (wordsFor n ≤ length (now out)) ⌝ }
+    ensures { λ _. ⌜ now (out .exit) ≡ put (now (out .entry)) 0 (wordsOf (now (marks .entry)) n) ⌝ }
+{
+    let mut flags = [0u32; 1024];
+    flagged(marks, n, &mut flags);
+    zeros::fill_words(out, (n + 63) / 64);
+    bits::pack(&flags, out, 0, n);
+}
+
+// Whether the n floats from `at` on have, where they are marked, the bit patterns of the words from `from` on.
+fn same_marked(words: &[u64], from: usize, n: usize, marks: &[u8], xs: &[f32], at: usize) -> bool
+    requires { ⌜ (from ≤ 8192) × (n ≤ 1024) × (n ≤ length (now marks)) × (at + n ≤ length (now xs)) ⌝ }
+    ensures { λ r. ⌜ r ≡ markedAgree (now (marks .entry)) (now (words .entry)) from (take n (drop at (now (xs .entry)))) ⌝ }
+{
+    let mut all = true;
+    let mut i = 0;
+    while i < n {
+        if marks[i] != 0 && !same(xs[at + i], word(words, from + i)) {
+            all = false;
         }
         i += 1;
     }
-    found
+    all
 }
 
-// Pixels, marks, image, template; centred template, centred image, norms, correlation.
+// Whether both centred images, where they are marked, and the norms are those of the words.
+fn told_marked(words: &[u64], n: usize, marks: &[u8], part: &[f32], s: stats::Stats) -> bool
+    requires { ⌜ (n ≤ 1024) × (n ≤ length (now marks)) × (6 * n ≤ length (now part)) ⌝ }
+    ensures { λ r. ⌜
+        (let ms = now (marks .entry) in
+        let ws = now (words .entry) in
+        let xs = now (part .entry) in
+        r ≡ (markedAgree ms ws (2 + 3 * n) (image n 4 xs) && markedAgree ms ws (2 + 4 * n) (image n 5 xs) && floatsAgree ws (2 + 5 * n) (normsOf s)))
+        ⌝ }
+{
+    if !same_marked(words, 2 + 3 * n, n, marks, part, 4 * n) {
+        return false;
+    }
+    same_marked(words, 2 + 4 * n, n, marks, part, 5 * n)
+        && same_floats(words, 2 + 5 * n, 3, &[s.tmp_norm, s.img_norm, s.corr], 0)
+}
+
+// Pixels, marks, image, template; centred template and centred image where they are marked, norms, correlation.
 fn centred(words: &[u64]) -> bool
     ensures { λ r. ⌜ r ≡ statsAgree (now (words .entry)) ⌝ }
 {
@@ -96,15 +143,16 @@ fn centred(words: &[u64]) -> bool
         return false;
     }
     let n = w as usize;
-    let mut marks = [0u8; 1024];
+    let mut stored = [0u8; 1024];
+    let mut marks = [0xffff_ffff_ffff_ffffu64; 16];
     let mut part = [1.0f32; 6144];
-    bytes(words, 2, &mut marks);
+    bytes(words, 2, &mut stored);
+    packed(&stored, n, &mut marks);
     floats(words, 2 + n, n, &mut part, 0);
     floats(words, 2 + 2 * n, n, &mut part, 3 * n);
-    let found = count(&marks[..n], n);
-    let r = stats::centered_stats_in_place(&mut part, &marks[..n], n, found);
-    same_floats(words, 2 + 3 * n, 2 * n, &part, 4 * n)
-        && same_floats(words, 2 + 5 * n, 3, &[r.tmp_norm, r.img_norm, r.corr], 0)
+    let found = bits::count(&marks, (n + 63) / 64);
+    let r = stats::centered_stats_in_place(&mut part, &marks, n, found);
+    told_marked(words, n, &stored, &part, r)
 }
 
 // A matrix, from the word i on.

@@ -37,7 +37,7 @@ word-requires-4 c κs = search needs
 
 returns-4 : tie.Need-returns-4
 unfolding isWhole
-returns-4 c = rw (le-leb _ 4200 (rw (c .before .before .before .before .before .before .before .word .ensures) at (c .before .before .before .before .before .if1 .left)), le-leb _ 4200 (rw (c .before .before .before .before .before .before .word2 .ensures) at (c .before .before .before .before .if2 .left)), le-leb _ 50000 (rw (c .before .before .before .word3 .ensures) at (c .before .before .if3 .left)), lt-leb _ 4200 (rw (c .before .word4 .ensures) at (c .if4 .taken)))
+returns-4 c = rw (le-leb _ 4200 (rw (c .before .before .before .before .before .before .before .word .ensures) at (c .before .before .before .before .before .if1 .left)), le-leb _ 4200 (rw (c .before .before .before .before .before .before .word2 .ensures) at (c .before .before .before .before .if2 .left)), le-leb _ 50000 (rw (c .before .before .before .word3 .ensures) at (c .before .before .if3 .left)), lt-leb _ 80 (rw (c .before .word4 .ensures) at (c .if4 .taken)))
 
 add-result : tie.Need-add-result
 add-result c = search needs
@@ -50,7 +50,7 @@ add-result-3 c = search needs
 
 returns-5 : tie.Need-returns-5
 unfolding isWhole
-returns-5 c = and-passed (both (both (both (le-leb _ 4200 (rw (c .before .before .before .before .before .before .before .word .ensures) at (c .before .before .before .before .before .if1 .left))) (le-leb _ 4200 (rw (c .before .before .before .before .before .before .word2 .ensures) at (c .before .before .before .before .if2 .left)))) (le-leb _ 50000 (rw (c .before .before .before .word3 .ensures) at (c .before .before .if3 .left)))) (le-leb _ 4200 (rw (c .before .word4 .ensures) at (c .if4 .left)))) (ap₂ (λ (a b : ℕ). eqb (length (now (c .before .before .before .before .before .before .before .before .before .args .words))) (12 + a + b + 17)) (c .before .before .before .before .before .before .before .word .ensures) (c .before .before .before .before .before .before .word2 .ensures))
+returns-5 c = and-passed (both (both (both (le-leb _ 4200 (rw (c .before .before .before .before .before .before .before .word .ensures) at (c .before .before .before .before .before .if1 .left))) (le-leb _ 4200 (rw (c .before .before .before .before .before .before .word2 .ensures) at (c .before .before .before .before .if2 .left)))) (le-leb _ 50000 (rw (c .before .before .before .word3 .ensures) at (c .before .before .if3 .left)))) (le-leb _ 80 (rw (c .before .word4 .ensures) at (c .if4 .left)))) (ap₂ (λ (a b : ℕ). eqb (length (now (c .before .before .before .before .before .before .before .before .before .args .words))) (12 + a + b + 17)) (c .before .before .before .before .before .before .before .word .ensures) (c .before .before .before .before .before .before .word2 .ensures))
 
 pub is-whole-spec : {M : Type 1} → statement M
 is-whole-spec =

@@ -10,13 +10,13 @@ use denote.Ref.{now}
 use Rattle.lists.specs.Marked.{pick}
 use Rattle.words.specs.Words.{allBelow}
 use Rattle.words.proofs.Agree.{all-passed, all-failed}
-use Rattle.calls.specs.Calls.{marksAgree}
+use Rattle.calls.specs.Calls.{wordBefore, marksAgree}
 use borrow.Author.Needs.{needs}
 use Rattle.calls.proofs.marks_agree.Statement.{statement}
 use Rattle.calls.proofs.marks_agree.Tie as tie
 
 abbrev Inv-loop : tie.InvT-loop
-Inv-loop marks zeros all₀ i₀ all i = (i ≤ length marks) × (all ≡ allBelow i (λ k. eqb (getD marks k 0) (pick (ltb k zeros) 0 7)))
+Inv-loop marks zeros all₀ i₀ all i = (i ≤ length marks) × (all ≡ allBelow i (λ k. eqb (getD marks k 0) (pick (ltb k zeros) 0 wordBefore)))
 
 abbrev μ-loop : tie.MeasureT-loop
 μ-loop marks zeros all₀ i₀ all i = length marks - i
@@ -25,11 +25,14 @@ loop-holds : tie.Need-loop-holds Inv-loop μ-loop
 unfolding allBelow
 loop-holds c = (search needs, refl)
 
+mul-if1 : tie.Need-mul-if1 Inv-loop μ-loop
+mul-if1 c = search needs
+
 shared-slice-read-if1 : tie.Need-shared-slice-read-if1 Inv-loop μ-loop
 shared-slice-read-if1 c = search needs
 
-mark-after-requires : tie.Need-mark-after-requires Inv-loop μ-loop
-mark-after-requires c κs = search needs
+word-after-requires : tie.Need-word-after-requires Inv-loop μ-loop
+word-after-requires c κs = search needs
 
 add-i : tie.Need-add-i Inv-loop μ-loop
 add-i c = search needs
@@ -40,7 +43,7 @@ loop-less c = search needs
 loop-again : tie.Need-loop-again Inv-loop μ-loop
 loop-again c =
     let l = c .before .before .before .before .loop in
-    let told = c .before .mark-after .ensures in
+    let told = c .before .word-after .ensures in
     (omega arith, ⊎-elim (λ w. w .1 ∙ all-failed _ _ (l .inv .1) (ne-eqb _ _ (λ e. w .0 .taken (e ∙ sym told)))) (λ w. w .1 ∙ all-passed _ _ (l .inv .1) (eq-eqb _ _ (w .0 .left ∙ told))) (c .if1 .came))
 
 returns : tie.Need-returns Inv-loop μ-loop
@@ -56,8 +59,9 @@ marks-agree-spec =
     Inv-loop
     μ-loop
     loop-holds
+    mul-if1
     shared-slice-read-if1
-    mark-after-requires
+    word-after-requires
     add-i
     loop-less
     loop-again

@@ -2,11 +2,11 @@
 use mathlib.Core.Path.{_∙_}
 use native.Mathlib.Omega.{arith}
 use denote.Ref.{now}
+use borrow.Author.Needs.{needs}
 use borrow.Author.Tests.{not-false}
 use Rattle.vectors.specs.Passes.{warpAgrees}
 use Rattle.vectors.proofs.Sides.{unfit-of}
 use Rattle.vectors.proofs.Parts.{warp-told}
-use borrow.Author.Needs.{needs}
 use Rattle.vectors.proofs.passes.warped.Statement.{statement}
 use Rattle.vectors.proofs.passes.warped.Tie as tie
 
@@ -35,17 +35,17 @@ slice-aggregate-warp-three-inverse-map-2 c = search needs
 map-at-requires : tie.Need-map-at-requires
 map-at-requires c κs = search needs
 
-slice-aggregate-warp-three-inverse-map-3 : tie.Need-slice-aggregate-warp-three-inverse-map-3
-slice-aggregate-warp-three-inverse-map-3 c = search needs
-
-slice-aggregate-warp-three-inverse-map-4 : tie.Need-slice-aggregate-warp-three-inverse-map-4
-slice-aggregate-warp-three-inverse-map-4 c = search needs
-
-slice-aggregate-warp-three-inverse-map-5 : tie.Need-slice-aggregate-warp-three-inverse-map-5
-slice-aggregate-warp-three-inverse-map-5 c = search needs
-
 warp-three-inverse-map-requires : tie.Need-warp-three-inverse-map-requires
-warp-three-inverse-map-requires c κs = let s = c .before .before .before .before .before .before .before .before .before .before .before .sides-at .ensures in (record { w-least = s .w-least; w-most = s .w-most; h-least = s .h-least; h-most = s .h-most }, omega (arith, s .pixels, s .few, c .before .before .before .before .before .before .before .floats .kept .1 .1 .1 .0), omega (arith, s .pixels, s .few), record { spots-fit = s .w-most; across-fit = s .w-most; down-fit = s .w-most })
+warp-three-inverse-map-requires c κs = search needs
+
+slice-aggregate-unpacked : tie.Need-slice-aggregate-unpacked
+slice-aggregate-unpacked c = search needs
+
+slice-aggregate-unpacked-2 : tie.Need-slice-aggregate-unpacked-2
+slice-aggregate-unpacked-2 c = search needs
+
+unpacked-requires : tie.Need-unpacked-requires
+unpacked-requires c κs = search needs
 
 slice-aggregate-told : tie.Need-slice-aggregate-told
 slice-aggregate-told c = search needs
@@ -54,12 +54,20 @@ slice-aggregate-told-2 : tie.Need-slice-aggregate-told-2
 slice-aggregate-told-2 c = search needs
 
 told-requires : tie.Need-told-requires
-told-requires c κs = let s = c .before .before .before .before .before .before .before .before .before .before .before .before .before .before .before .before .before .before .before .sides-at .ensures in (s .few, omega (arith, s .few, c .before .before .before .before .before .before .before .warp-three-inverse-map .kept .0, c .before .before .before .before .before .before .before .before .before .before .before .before .before .before .before .floats .kept .1 .1 .1 .0), omega (arith, s .few, c .before .before .before .before .before .before .before .warp-three-inverse-map .kept .1 .0))
+told-requires c κs = search needs
 
 returns-2 : tie.Need-returns-2
 returns-2 c =
-    let s = c .before .before .before .before .before .before .before .before .before .before .before .before .before .before .before .before .before .before .before .before .sides-at .result in
-    c .told .ensures ∙ warp-told (now (c .before .before .before .before .before .before .before .before .before .before .before .before .before .before .before .before .before .before .before .before .before .before .args .words)) (c .before .before .before .before .before .before .before .before .before .before .before .before .before .before .before .before .before .before .before .before .sides-at .ensures) (not-false (s .ok) (c .before .before .before .before .before .before .before .before .before .before .before .before .before .before .before .before .before .before .if1 .left)) _ _ _ _ _ _ _ (omega (arith, c .before .before .before .before .before .before .before .before .before .before .before .before .before .before .before .before .before .before .before .before .sides-at .ensures .few)) (c .before .before .before .before .before .before .before .before .before .before .before .before .before .before .before .before .floats .ensures) (c .before .before .before .before .before .before .before .before .before .before .before .before .map-at .ensures) (c .before .before .before .before .before .before .before .before .warp-three-inverse-map .ensures)
+    let u = c .before .before .before .before in
+    let z = u .before .before .before .before .before in
+    let m = z .before in
+    let e = m .before .before .before .before in
+    let t = e .before .before in
+    let s = t .before .before in
+    let f = s .sides-at .ensures in
+    c .told .ensures
+    ∙ warp-told (now (s .before .before .args .words)) f (not-false (s .sides-at .result .ok) (t .if1 .left)) _ _ _ _ _ _ _ _ _ (omega (arith, f .few)) (omega (arith, f .few))
+    (e .floats .ensures) (m .map-at .ensures) (z .warp-three-inverse-map .ensures) (u .unpacked .ensures)
 
 pub warped-spec : {M : Type 1} → statement M
 warped-spec =
@@ -73,10 +81,10 @@ warped-spec =
     slice-aggregate-warp-three-inverse-map
     slice-aggregate-warp-three-inverse-map-2
     map-at-requires
-    slice-aggregate-warp-three-inverse-map-3
-    slice-aggregate-warp-three-inverse-map-4
-    slice-aggregate-warp-three-inverse-map-5
     warp-three-inverse-map-requires
+    slice-aggregate-unpacked
+    slice-aggregate-unpacked-2
+    unpacked-requires
     slice-aggregate-told
     slice-aggregate-told-2
     told-requires
