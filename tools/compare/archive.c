@@ -100,7 +100,7 @@ static void call(uint64_t kind)
     c.state = part(8, &c.state_len);
     c.store = part(1, &c.store_len);
     c.work = part(4, &c.work_len);
-    c.marks = part(1, &c.marks_len);
+    c.marks = part(8, &c.marks_len);
     c.pose = part(4, &c.pose_len);
     code = kind == ALIGN ? c_align(&c) : c_estimate(&c);
     c_told(code, part(4, &two));

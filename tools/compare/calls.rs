@@ -138,7 +138,7 @@ fn print_call(c: &Call) {
 fn print_smallest(seed: u64, family: usize, index: u64, case: &Case) {
     let small = shrink::shrunk(case);
     println!("a difference in '{}'; the smallest input found:", FAMILIES[family].name);
-    println!("  state {:?}, store of {}, work of {}, marks of {}", small.state, small.store, small.work, small.marks);
+    println!("  state {:?}, store of {} bytes, work of {} floats, marks of {} words", small.state, small.store, small.work, small.marks);
     small.calls.iter().for_each(print_call);
     if let Some(d) = small.run(&mut [0; 14]) {
         println!("  call {} of {}", d.call + 1, small.calls.len());
@@ -198,7 +198,7 @@ fn main() {
     let number = |i: usize, default: u64| words.get(i).map_or(default, |w| w.parse().expect("a number"));
     let differs = if words.first().map_or(false, |w| w == "--again") {
         let family = number(2, 0) as usize;
-        assert!(words.len() == 4 && (1..=FAMILIES.len()).contains(&family), "--again SEED FAMILY INDEX, families 1 to 8");
+        assert!(words.len() == 4 && (1..=FAMILIES.len()).contains(&family), "--again SEED FAMILY INDEX, families 1 to {}", FAMILIES.len());
         again(number(1, SEED), family - 1, number(3, 0))
     } else {
         all(number(0, COUNT), number(1, SEED))

@@ -15,7 +15,7 @@ pub struct Call {
     pub settings: Settings,
 }
 
-/// the state, how much memory is lent, what it is filled with (`salt`), and the calls
+/// the state, how much memory is lent (bytes, floats, words of marks), what it is filled with (`salt`), and the calls
 #[derive(Clone, Debug)]
 pub struct Case {
     pub state: [u64; 3],
@@ -46,6 +46,11 @@ pub struct Difference {
 /// any bits, for memory before a call
 fn filled(salt: u32, i: usize) -> u32 {
     (salt ^ i as u32).wrapping_mul(0x9e37_79b9) ^ salt.rotate_left(16)
+}
+
+/// any bits in all sixty-four of a word
+fn filled_word(salt: u32, i: usize) -> u64 {
+    (filled(!salt, i) as u64) << 32 | filled(salt, i) as u64
 }
 
 impl Call {
@@ -100,7 +105,7 @@ impl Case {
             let salt = self.salt.wrapping_add(call as u32);
             for m in [&mut expected, &mut got] {
                 m.work.iter_mut().enumerate().for_each(|(i, x)| *x = f32::from_bits(filled(salt, i)));
-                m.marks.iter_mut().enumerate().for_each(|(i, x)| *x = (filled(salt, i) >> 24) as u8);
+                m.marks.iter_mut().enumerate().for_each(|(i, x)| *x = filled_word(salt, i));
             }
             let (e, g) = (c.model(&mut expected), c.library(&mut got));
             ends[e.number as usize] += 1;

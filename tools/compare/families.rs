@@ -1,7 +1,12 @@
 //! The families of cases: each case depends on the seed, its family and its index alone.
+//!
+//! Marks are lent in words of sixty-four, as many as the pixels need (document 02, request 5), with garbage in all their bits. The ninth family,
+//! 'around whole words', is for that: 63, 64, 65, 127, 128 and 129 pixels, rows that are whole words or a pixel off, and a word too few, just
+//! enough and one more, by the alignment and by the aligner. 'Lengths one off' and 'aligner sequences' lend a word too few as well.
 
 use aligner::pixels;
 use case::{Call, Case};
+use ecc::words;
 use frames::{board, faint_frame, frame, pair, seen};
 use lines::{about, below, pick, Stream};
 use quayhollow::Settings;
@@ -18,15 +23,16 @@ pub struct Family {
 /// frames in a sequence
 const LONG: u64 = 250;
 
-pub const FAMILIES: [Family; 8] = [
+pub const FAMILIES: [Family; 9] = [
     Family { name: "small frames, all of a kind", share: 260_000, calls: 1, make: exhaustive },
-    Family { name: "around the limits", share: 150_000, calls: 1, make: limits },
-    Family { name: "textures with known motion", share: 150_000, calls: 1, make: textured },
-    Family { name: "nearly flat", share: 150_000, calls: 1, make: faint },
-    Family { name: "damaged settings", share: 100_000, calls: 1, make: damaged },
-    Family { name: "lengths one off", share: 89_600, calls: 1, make: lengths },
+    Family { name: "around the limits", share: 140_000, calls: 1, make: limits },
+    Family { name: "textures with known motion", share: 140_000, calls: 1, make: textured },
+    Family { name: "nearly flat", share: 140_000, calls: 1, make: faint },
+    Family { name: "damaged settings", share: 95_000, calls: 1, make: damaged },
+    Family { name: "lengths one off", share: 84_600, calls: 1, make: lengths },
     Family { name: "large sides", share: 400, calls: 1, make: large },
     Family { name: "aligner sequences", share: 100_000, calls: LONG, make: sequence },
+    Family { name: "around whole words", share: 40_000, calls: 4, make: wordy },
 ];
 
 impl Family {
@@ -58,7 +64,7 @@ fn settings(s: &mut Stream) -> Settings {
 fn single(s: &mut Stream, w: usize, h: usize, frames: (Vec<u8>, Vec<u8>), settings: Settings) -> Case {
     let n = pixels(w, h, settings.edge);
     let call = Call { template: Some(frames.0), input: frames.1, w, h, settings };
-    Case { state: [0; 3], store: 0, work: 12 * n + below(s, 4), marks: n + below(s, 4), salt: s.next(), calls: vec![call] }
+    Case { state: [0; 3], store: 0, work: 12 * n + below(s, 4), marks: words(n) + below(s, 4), salt: s.next(), calls: vec![call] }
 }
 
 /// a ground of w by h, places in it and values: every pair of frames with these values at these places is a case
@@ -210,7 +216,7 @@ fn lengths(s: &mut Stream, _: u64) -> Case {
     let aligner = below(s, 2) == 0;
     a.resize(off(s, w * h), 9);
     b.resize(off(s, w * h), 9);
-    let (work, marks, store) = (off(s, 12 * n), off(s, n), off(s, w * h));
+    let (work, marks, store) = (off(s, 12 * n), off(s, words(n)), off(s, w * h));
     let held = pick(s, &[0, 1, 1, 1, 1, 7, u64::MAX]);
     let state = [held, pick(s, &[w, w, w, w, w, h, w + 1]) as u64, pick(s, &[h, h, h, h, h, w, 0]) as u64];
     let call = Call { template: if aligner { None } else { Some(a) }, input: b, w, h, settings: set };
@@ -304,7 +310,55 @@ fn sequence(s: &mut Stream, _: u64) -> Case {
         }
     }
     let n = pick(s, &[w * h, 324, 324, 400, 150]);
-    let (work, marks) = (12 * n + below(s, 4), n + below(s, 4));
+    let (work, marks) = (12 * n + below(s, 4), words(n) + below(s, 4) - 1);
     let state = pick(s, &[[0; 3], [0; 3], [0, 9, 9], [1, 9, 9], [u64::MAX; 3], [3, w as u64, h as u64]]);
     Case { state, store: pick(s, &[w * h, 324, 324, 1200, 150]), work, marks, salt: s.next(), calls }
+}
+
+/// sides with 63, 64, 65, 127, 128 and 129 pixels
+const PIXELS: [&[(usize, usize)]; 6] = [
+    &[(9, 7), (7, 9), (21, 3), (3, 21)],
+    &[(8, 8), (16, 4), (4, 16), (32, 2)],
+    &[(13, 5), (5, 13)],
+    &[(127, 1), (1, 127)],
+    &[(16, 8), (8, 16), (32, 4), (4, 32)],
+    &[(43, 3), (3, 43)],
+];
+
+/// sides and an edge: pixels at and around whole words, rows of whole words or a pixel off, and both by resizing
+fn wordy_sides(s: &mut Stream) -> (usize, usize, usize) {
+    let edge = pick(s, &[0, 350]);
+    match below(s, 8) {
+        0..=3 => {
+            let sides = pick(s, &PIXELS);
+            let (w, h) = pick(s, sides);
+            (w, h, edge)
+        }
+        4 | 5 => (pick(s, &[64, 64, 128]), 1 + below(s, 7), edge),
+        6 => (pick(s, &[63, 65, 127, 129, 192]), 1 + below(s, 5), edge),
+        _ => {
+            let edge = pick(s, &[8, 16, 64]);
+            let (long, short) = (edge + 1 + below(s, edge), 1 + below(s, edge));
+            let (w, h) = if below(s, 2) == 0 { (long, short) } else { (short, long) };
+            (w, h, edge)
+        }
+    }
+}
+
+/// a pair by the alignment, then the aligner over the template, the input and the template again; with no pass, the garbage is there to be cleared
+fn wordy(s: &mut Stream, _: u64) -> Case {
+    let (w, h, edge) = wordy_sides(s);
+    let set = Settings { edge, max_iter: pick(s, &[0, 1, 3, 10, 30, 100]), ..settings(s) };
+    let reach = pick(s, &[0.3, 1.0, 3.0]);
+    let pose = [about(s, 0.1 * reach), about(s, reach), about(s, reach)];
+    let (seed, cell) = (s.next() as u64, pick(s, &[3.0, 5.0, 8.0]));
+    let (a, b) = match below(s, 3) {
+        0 => pair(s, w, h),
+        _ => (seen(seed, cell, w, h, pose), seen(seed, cell, w, h, [0.0; 3])),
+    };
+    let call = |template: Option<&Vec<u8>>, input: &Vec<u8>| Call { template: template.cloned(), input: input.clone(), w, h, settings: set };
+    let calls = vec![call(Some(&a), &b), call(None, &a), call(None, &b), call(None, &a)];
+    let n = pixels(w, h, edge);
+    let marks = words(n) + pick(s, &[0, 1, 1, 1, 2, 2]) - 1;
+    Case { state: [0; 3], store: w * h + below(s, 2), work: 12 * n + pick(s, &[0, 0, 1]), marks, salt: s.next(), calls }
 }

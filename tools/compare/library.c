@@ -15,7 +15,7 @@ struct call {
     size_t store_len;
     float *work;
     size_t work_len;
-    uint8_t *marks;
+    uint64_t *marks;
     size_t marks_len;
     float *pose;
     size_t pose_len;

@@ -5,8 +5,8 @@
 //!   library --write [CALLS]    prints neither: it writes each call by the header to standard output, with what the oracle expects of it, for the
 //!                              library of another machine. archive.c reads that, and says how a record is made up
 //!
-//! The aligner and the lengths are held to document 01's rules as tools/oracle/aligner.rs has them, the pins to those of documents 01 and 02 as
-//! tools/oracle/pins.rs has them.
+//! The aligner and the lengths are held to the rules of documents 01 and 02 as tools/oracle/aligner.rs has them, the pins as tools/oracle/pins.rs
+//! has them. Marks are lent in words, with any bits in them before; some sides have pixels at, just below and just above whole words.
 
 #[path = "../oracle/aligner.rs"]
 mod aligner;
@@ -27,7 +27,7 @@ mod poses;
 #[path = "../oracle/rules.rs"]
 mod rules;
 use aligner::{pixels, Memory};
-use ecc::EccConfig;
+use ecc::{words, EccConfig};
 use lines::{pick, Stream};
 use pins::pins;
 use quayhollow::{Answer, Outcome, Pose, Settings, State};
@@ -52,7 +52,7 @@ struct Call {
     store_len: usize,
     work: *mut f32,
     work_len: usize,
-    marks: *mut u8,
+    marks: *mut u64,
     marks_len: usize,
     pose: *mut f32,
     pose_len: usize,
@@ -226,7 +226,7 @@ impl Tally {
                 .part(&before.state, &expected.state, u64::to_le_bytes)
                 .part(&before.store, &expected.store, u8::to_le_bytes)
                 .part(&before.work, &expected.work, f32::to_le_bytes)
-                .part(&before.marks, &expected.marks, u8::to_le_bytes)
+                .part(&before.marks, &expected.marks, u64::to_le_bytes)
                 .part(&before.pose, &expected.pose, f32::to_le_bytes)
                 .part(&[u32::MAX; 2], &number_passes, u32::to_le_bytes)
         });
@@ -261,7 +261,7 @@ fn frames(s: &mut Stream, w: usize, h: usize) -> (Vec<u8>, Vec<u8>) {
 
 /// sides that differ, frames, settings and memory: as a call needs them most of the time, a little off at others
 fn given(s: &mut Stream) -> (Given, Memory) {
-    let (w, h) = pick(s, &[(7, 6), (6, 9), (9, 5), (5, 11), (12, 8), (8, 10)]);
+    let (w, h) = pick(s, &[(7, 6), (6, 9), (9, 5), (5, 11), (12, 8), (8, 10), (9, 7), (16, 4), (13, 5), (8, 16), (43, 3), (64, 2)]);
     let (mut template, mut input) = frames(s, w, h);
     let settings = Settings {
         eps: pick(s, &[1e-4, 1e-3, 0.05, -1.0, f32::NAN]),
@@ -279,7 +279,7 @@ fn given(s: &mut Stream) -> (Given, Memory) {
         _ => (),
     }
     let room = |count: usize, s: &mut Stream| if off == 3 { count.saturating_sub(s.next() as usize % 2) } else { count + s.next() as usize % 9 };
-    let (work, marks, store) = (room(12 * n, s), room(n, s), room(w.min(99) * h, s));
+    let (work, marks, store) = (room(12 * n, s), room(words(n), s), room(w.min(99) * h, s));
     let held = pick(s, &[0, 1, 1, 1, 7, u64::MAX]);
     let state = [held, w as u64, pick(s, &[h, h, h, h, h + 1]) as u64, 77, 78, 79];
     let pose = pick(s, &[4, 4, 5, 9, 3, 0]);
@@ -287,7 +287,7 @@ fn given(s: &mut Stream) -> (Given, Memory) {
         state: state[..pick(s, &[3, 3, 3, 3, 4, 6, 2, 0])].to_vec(),
         store: s.bytes(store),
         work: s.floats(work),
-        marks: s.bytes(marks),
+        marks: (0..marks).map(|_| (s.next() as u64) << 32 | s.next() as u64).collect(),
         pose: s.floats(pose),
     };
     (Given { template, input, w, h, settings }, memory)
@@ -328,13 +328,13 @@ fn calls(t: &mut Tally, count: usize) {
 
 /// lengths for sides and edges of all kinds; the version, the defaults, and memory of no length at null
 fn lengths(t: &mut Tally) {
-    let sides = [0, 1, 4, 7, 8, 9, 12, 350, 351, 400, 700, 4095, 4096, 4097, 1 << 32, usize::MAX];
+    let sides = [0, 1, 4, 7, 8, 9, 12, 63, 64, 65, 350, 351, 400, 700, 4095, 4096, 4097, 1 << 32, usize::MAX];
     let nothing = |w: usize, h: usize| Given { template: vec![], input: vec![], w, h, settings: Settings::default() };
     let mut c = nothing(0, 0).record(&mut Memory::default());
     for (w, h, edge) in sides.iter().flat_map(|&w| sides.iter().flat_map(move |&h| sides.map(|edge| (w, h, edge)))) {
         let n = pixels(w, h, edge);
         let store = if w > 4096 || h > 4096 { 0 } else { w * h };
-        let expected = [12 * n, n, store, 2];
+        let expected = [12 * n, words(n), store, 3];
         (c.w, c.h, c.edge) = (w, h, edge);
         let mut out = [9; 4];
         unsafe { c_lengths(&c, out.as_mut_ptr()) };

@@ -2,6 +2,7 @@
 
 use aligner::pixels;
 use case::{Call, Case};
+use ecc::words;
 use std::ops::Range;
 
 /// how many smaller cases are tried at most
@@ -64,7 +65,8 @@ impl Shrinker {
         let mut any = false;
         for (w, h) in sides {
             let kept = [(0..w - w / 2, 0..h), (0..w, 0..h - h / 2), (0..w - 1, 0..h), (0..w, 0..h - 1), (1..w, 0..h), (0..w, 1..h)];
-            any |= kept.iter().any(|(xs, ys)| self.attempt(&mut |c| each(c, |k| crop(k, w, h, xs, ys))));
+            let mut less = kept.iter().filter(|(xs, ys)| xs.len() < w || ys.len() < h);
+            any |= less.any(|(xs, ys)| self.attempt(&mut |c| each(c, |k| crop(k, w, h, xs, ys))));
         }
         any
     }
@@ -101,7 +103,7 @@ impl Shrinker {
         let most = |f: &dyn Fn(&Call) -> usize| self.best.calls.iter().map(f).max().unwrap_or(0);
         let n = most(&|c| pixels(c.w, c.h, c.settings.edge));
         let store = most(&|c| if c.template.is_none() { c.input.len() } else { 0 });
-        self.attempt(&mut |c| (c.work, c.marks, c.store) = (12 * n, n, store));
+        self.attempt(&mut |c| (c.work, c.marks, c.store) = (12 * n, words(n), store));
         self.attempt(&mut |c| c.state = [0; 3]);
     }
 }

@@ -33,7 +33,7 @@ struct Case {
     template: Vec<u8>,
     input: Vec<u8>,
     work: Vec<f32>,
-    marks: Vec<u8>,
+    marks: Vec<u64>,
 }
 
 /// number, passes, and the bits of theta, tx, ty, rho
@@ -79,7 +79,7 @@ impl Case {
 
     /// pixels after resizing
     fn pixels(&self) -> usize {
-        self.marks.len()
+        self.work.len() / 12
     }
 
     fn rust(&self, max_iter: usize) -> Said {

@@ -1,5 +1,5 @@
-//! A whole call by document 01, over the oracle (ecc.rs): what the alignment and the aligner answer, what they leave in the lent memory, and
-//! the lengths that they need. A model for tests. It shares nothing with the Rattle code.
+//! A whole call by document 01 and document 02's request 5, over the oracle (ecc.rs): what the alignment and the aligner answer, what they leave
+//! in the lent memory, and the lengths that they need. A model for tests. It shares nothing with the Rattle code.
 
 use super::ecc::{self, EccConfig, Outcome};
 
@@ -9,7 +9,7 @@ pub struct Memory {
     pub state: Vec<u64>,
     pub store: Vec<u8>,
     pub work: Vec<f32>,
-    pub marks: Vec<u8>,
+    pub marks: Vec<u64>,
     pub pose: Vec<f32>,
 }
 
@@ -46,13 +46,13 @@ pub fn pixels(w: usize, h: usize, edge: usize) -> usize {
     tw * th
 }
 
-/// the oracle's answer; with 0 and 5 to 10 the first 12n floats and n marks are cleared
+/// the oracle's answer; with 0 and 5 to 10 the first 12n floats are cleared, and all words that n marks take, whole
 pub fn align(template: &[u8], input: &[u8], w: usize, h: usize, cfg: EccConfig, m: &mut Memory) -> Outcome {
     let o = ecc::find_transform_ecc_euclidean(template, input, w, h, cfg, m.work.len(), m.marks.len());
     if o.number == 0 || o.number > 4 {
         let n = pixels(w, h, cfg.resize_long_edge.unwrap_or(0));
         m.work[..12 * n].fill(0.0);
-        m.marks[..n].fill(0);
+        m.marks[..ecc::words(n)].fill(0);
     }
     o
 }

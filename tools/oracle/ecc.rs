@@ -1,6 +1,6 @@
 //! The oracle: document 000 (src/boost_tracker/ecc.rs of kadu-v/jamtrack-rs at 65aa298d6b, MIT, see NOTICE) with document 01's
 //! mathematics and inverse in place of the platform's and nalgebra's, and document 01's number for each way to end. Every loop, sum and
-//! order is the Rust's own. `// 01:` marks each line that is not.
+//! order is the Rust's own. `// 01:` marks each line that is not, `// 02:` one that is document 02's.
 //!
 //! The mathematics is the module `rules` beside this one: rules.rs for document 01's, machine.rs for the machine's. With machine.rs, whose
 //! `ADDED` is false, the tests that document 01 adds are not made, and this is document 000 but for nalgebra's inverse.
@@ -63,6 +63,11 @@ pub fn resized(width: usize, height: usize, edge: Option<usize>) -> (usize, usiz
     (tw, th, sx, sy)
 }
 
+/// how many words n marks take, sixty-four to a word
+pub fn words(n: usize) -> usize {
+    n.div_ceil(64) // 02: request 5
+}
+
 /// bytes as f32, resized if a side changed, blurred
 pub fn prepared(bytes: &[u8], width: usize, height: usize, tw: usize, th: usize, ksize: usize) -> Vec<f32> {
     let plain = gray_u8_to_f32(bytes);
@@ -80,8 +85,8 @@ pub fn find_transform_ecc_euclidean(
     width: usize,
     height: usize,
     cfg: EccConfig,
-    work: usize,  // 01: how many floats and marks are lent
-    marks: usize, // 01
+    work: usize,  // 01: how many floats are lent
+    marks: usize, // 02: how many words of marks
 ) -> Outcome {
     if rules::ADDED && (width > 4096 || height > 4096) {
         return refusal(2, 0); // 01
@@ -100,7 +105,7 @@ pub fn find_transform_ecc_euclidean(
     }
 
     let (tw, th, sx, sy) = resized(width, height, cfg.resize_long_edge);
-    if rules::ADDED && (work < 12 * tw * th || marks < tw * th) {
+    if rules::ADDED && (work < 12 * tw * th || marks < words(tw * th)) {
         return refusal(4, 0); // 01
     }
     let template_blur = prepared(template_u8, width, height, tw, th, cfg.gauss_filt_size);

@@ -1,13 +1,13 @@
-//! What pinlog prints, by document 01's section 'For the pin driver' and document 02's request 2: a model over the oracle (ecc.rs), for tests. It shares nothing with the
-//! Rattle code.
+//! What pinlog prints, by document 01's section 'For the pin driver' and document 02's requests 2 and 5: a model over the oracle (ecc.rs), for tests. It shares nothing
+//! with the Rattle code.
 
 use super::aligner::{self, Memory};
 use super::ecc::{self, EccConfig};
 use super::pins::pins;
 
-/// the store, work and marks of the program, for a fresh aligner
+/// the store, work and marks of the program, for a fresh aligner: sixteen words are its 1,024 marks
 fn memory() -> Memory {
-    Memory { state: vec![0; 3], store: vec![0; 1024], work: vec![0.0; 12288], marks: vec![0; 1024], pose: vec![] }
+    Memory { state: vec![0; 3], store: vec![0; 1024], work: vec![0.0; 12288], marks: vec![0; 16], pose: vec![] }
 }
 
 fn number(bytes: &[u8]) -> usize {
