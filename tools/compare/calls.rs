@@ -28,7 +28,7 @@ mod quayhollow;
 mod rules;
 mod shrink;
 use case::{Call, Case, Told};
-use families::{FAMILIES, LARGE, LARGEST};
+use families::{FAMILIES, FAR, LARGE, LARGEST};
 use std::sync::atomic::{AtomicU64, Ordering};
 use std::thread;
 
@@ -41,6 +41,9 @@ const STEP: u64 = 20_000;
 struct Tally {
     ends: [[u64; 14]; FAMILIES.len()],
     differ: [Vec<u64>; FAMILIES.len()],
+    /// of the family of far poses: calls whose second pass marks some rows and not others, their rows, and those before the first and after the
+    /// last that hold a mark
+    far: [u64; 3],
 }
 
 impl Tally {
@@ -49,6 +52,7 @@ impl Tally {
             (0..14).for_each(|n| self.ends[f][n] += other.ends[f][n]);
             self.differ[f].extend(&other.differ[f]);
         }
+        (0..3).for_each(|i| self.far[i] += other.far[i]);
     }
 }
 
@@ -94,6 +98,20 @@ impl Run {
                 continue;
             }
             self.one(&mut t, family, index);
+            if family == FAR {
+                self.left(&mut t, index);
+            }
+        }
+    }
+
+    /// what the second pass of a far pose leaves out, by the oracle
+    fn left(&self, t: &mut Tally, index: u64) {
+        let case = families::case(self.seed, FAR, index);
+        let rows = case.calls[0].second_rows();
+        if let Some((first, last)) = rows.filter(|(first, last)| last - first + 1 < case.calls[0].h) {
+            let h = case.calls[0].h as u64;
+            let out = h - (last - first + 1) as u64;
+            t.far.iter_mut().zip([1, h, out]).for_each(|(sum, x)| *sum += x);
         }
     }
 
@@ -171,6 +189,8 @@ fn all(count: u64, seed: u64) -> bool {
             print_smallest(seed, family, index, &families::case(seed, family, index));
         }
     }
+    let [calls, rows, out] = total.far;
+    println!("far poses: in {} calls the second pass leaves out rows, {} of {}", calls, out, rows);
     let wrong = run.wrong.into_inner();
     let sevens: u64 = total.ends.iter().map(|e| e[7]).sum();
     if sevens > 0 {

@@ -64,6 +64,19 @@ impl Call {
         told(&o)
     }
 
+    /// the first and the last row that the second pass marks, where there is one and the frames are not resized: by the oracle
+    pub fn second_rows(&self) -> Option<(usize, usize)> {
+        let (s, n) = (self.settings, self.w * self.h);
+        let cfg = ecc::EccConfig { eps: s.eps, max_iter: 1, gauss_filt_size: s.filter, resize_long_edge: None };
+        let o = ecc::find_transform_ecc_euclidean(self.template.as_ref()?, &self.input, self.w, self.h, cfg, 12 * n, ecc::words(n));
+        let map = ecc::affine_from_theta_tx_ty(o.theta, o.tx, o.ty);
+        let zero = vec![0.0; n];
+        let (mut out, mut valid) = ([zero.clone(), zero.clone(), zero.clone()], vec![false; n]);
+        let [a, b, c] = &mut out;
+        ecc::warp_three_inverse_map(&zero, &zero, &zero, self.w, self.h, &map, a, b, c, &mut valid);
+        ecc::marked_rows(&valid, self.w).filter(|_| o.number == 0)
+    }
+
     fn library(&self, m: &mut Memory) -> Told {
         let o = match &self.template {
             Some(t) => quayhollow::align(t, &self.input, self.w, self.h, self.settings, &mut m.work, &mut m.marks),

@@ -3,11 +3,12 @@
 //! Marks are lent in words of sixty-four, as many as the pixels need (document 02, request 5), with garbage in all their bits. The ninth family,
 //! 'around whole words', is for that: 63, 64, 65, 127, 128 and 129 pixels, rows that are whole words or a pixel off, and a word too few, just
 //! enough and one more, by the alignment and by the aligner. 'Lengths one off' and 'aligner sequences' lend a word too few as well.
+//! The tenth, 'far poses', has pairs whose first pass leads to a large turn or shift, so that later passes mark some rows only (request 8).
 
 use aligner::pixels;
 use case::{Call, Case};
 use ecc::words;
-use frames::{board, faint_frame, frame, pair, seen};
+use frames::{board, faint_frame, frame, jumped, pair, seen};
 use lines::{about, below, pick, Stream};
 use quayhollow::Settings;
 
@@ -23,16 +24,17 @@ pub struct Family {
 /// frames in a sequence
 const LONG: u64 = 250;
 
-pub const FAMILIES: [Family; 9] = [
+pub const FAMILIES: [Family; 10] = [
     Family { name: "small frames, all of a kind", share: 260_000, calls: 1, make: exhaustive },
     Family { name: "around the limits", share: 140_000, calls: 1, make: limits },
-    Family { name: "textures with known motion", share: 140_000, calls: 1, make: textured },
-    Family { name: "nearly flat", share: 140_000, calls: 1, make: faint },
+    Family { name: "textures with known motion", share: 110_000, calls: 1, make: textured },
+    Family { name: "nearly flat", share: 110_000, calls: 1, make: faint },
     Family { name: "damaged settings", share: 95_000, calls: 1, make: damaged },
     Family { name: "lengths one off", share: 84_600, calls: 1, make: lengths },
     Family { name: "large sides", share: 400, calls: 1, make: large },
     Family { name: "aligner sequences", share: 100_000, calls: LONG, make: sequence },
     Family { name: "around whole words", share: 40_000, calls: 4, make: wordy },
+    Family { name: "far poses", share: 60_000, calls: 1, make: far },
 ];
 
 impl Family {
@@ -361,4 +363,24 @@ fn wordy(s: &mut Stream, _: u64) -> Case {
     let n = pixels(w, h, edge);
     let marks = words(n) + pick(s, &[0, 1, 1, 1, 2, 2]) - 1;
     Case { state: [0; 3], store: w * h + below(s, 2), work: 12 * n + pick(s, &[0, 0, 1]), marks, salt: s.next(), calls }
+}
+
+/// the place of the family of far poses
+pub const FAR: usize = 9;
+
+/// a pair whose first pass leads far: up to a turn of 2, and up to twice the sides; mostly one of them alone
+fn far(s: &mut Stream, _: u64) -> Case {
+    let (w, h) = (6 + below(s, 40), 6 + below(s, 40));
+    let reach = |s: &mut Stream, side: usize| about(s, pick(s, &[0.5, 1.0, 2.0]) * side as f32) as f64;
+    let turn = about(s, 2.0) as f64;
+    let pose = match below(s, 5) {
+        0 | 1 => [turn, 0.0, 0.0],
+        2 => [0.0, 0.0, reach(s, h)],
+        3 => [0.0, reach(s, w), 0.0],
+        _ => [turn, reach(s, w), reach(s, h)],
+    };
+    let phases = [(); 3].map(|_| about(s, 3.0) as f64);
+    let both = jumped(phases, w, h, pose);
+    let set = Settings { eps: pick(s, &[1e-4, -1.0, -1.0]), max_iter: pick(s, &[2, 2, 3, 5, 10, 100]), filter: pick(s, &[1, 5, 31]), edge: 0 };
+    single(s, w, h, both, set)
 }

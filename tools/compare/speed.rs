@@ -2,7 +2,8 @@
 //!
 //!   speed [ROUNDS]
 //!
-//! A round times both, one after the other, with ten passes and with none; a short call is repeated until it lasts some milliseconds.
+//! A round times both, one after the other, with ten passes and with none; a short call is repeated until it lasts some milliseconds. Then come
+//! pairs whose first pass leads to a far pose (tools/vectors/frames.rs), with two passes and with one: what is timed is a pass at that pose.
 //! There are at least ROUNDS rounds (15 where it is left out), and as many as fit a second and a half. What is printed comes from their
 //! medians. Time is the thread's processor time: it goes on in the kernel, as where memory is handed out, and stands while other programs
 //! run. That clock is the C library's, for 64-bit Linux. Each call must do all its passes and give number 0, and both sides must give the
@@ -11,6 +12,12 @@
 #[allow(dead_code)]
 #[path = "../oracle/ecc.rs"]
 mod ecc;
+#[allow(dead_code)]
+#[path = "../vectors/frames.rs"]
+mod frames;
+#[allow(dead_code)]
+#[path = "../vectors/lines.rs"]
+mod lines;
 #[allow(dead_code)]
 #[path = "../../rust/quayhollow.rs"]
 mod quayhollow;
@@ -26,9 +33,10 @@ const PASSES: usize = 10;
 const LEAST: f64 = 4e6;
 const LONG: f64 = 1.5e9;
 
-/// two frames with their settings, and the memory that is lent
+/// two frames with their settings, the memory that is lent, and with how many passes the longer and the shorter call is made
 struct Case {
     side: usize,
+    passes: [usize; 2],
     settings: Settings,
     template: Vec<u8>,
     input: Vec<u8>,
@@ -69,12 +77,30 @@ impl Case {
     fn new(side: usize, filter: usize, edge: usize) -> Case {
         Case {
             side,
+            passes: [PASSES, 0],
             settings: Settings { eps: -1.0, max_iter: PASSES, filter, edge },
             template: frame(side, 0.0, 0.0, 0.0),
             input: frame(side, 0.16 / side as f64, 0.7, -0.4),
             work: vec![0.0; quayhollow::work_len(side, side, edge)],
             marks: vec![0; quayhollow::marks_len(side, side, edge)],
         }
+    }
+
+    /// a pair whose first pass leads near a pose
+    fn far(side: usize, phases: [f64; 3], pose: [f64; 3]) -> Case {
+        let (template, input) = frames::jumped(phases, side, side, pose);
+        Case { passes: [2, 1], template, input, ..Case::new(side, 31, 0) }
+    }
+
+    /// how many rows the second pass walks: from the first to the last that hold a mark
+    fn rows(&self) -> usize {
+        let (side, n) = (self.side, self.side * self.side);
+        let [theta, tx, ty, _] = self.rust(1).2.map(f32::from_bits);
+        let (map, zero) = (ecc::affine_from_theta_tx_ty(theta, tx, ty), vec![0.0; n]);
+        let (mut out, mut valid) = ([zero.clone(), zero.clone(), zero.clone()], vec![false; n]);
+        let [a, b, c] = &mut out;
+        ecc::warp_three_inverse_map(&zero, &zero, &zero, side, side, &map, a, b, c, &mut valid);
+        ecc::marked_rows(&valid, side).map_or(0, |(first, last)| last - first + 1)
     }
 
     /// pixels after resizing
@@ -101,7 +127,7 @@ impl Case {
 
     /// both sides say the same, with number 0 and all passes, and the library leaves zeros
     fn check(&mut self) {
-        for max_iter in [0, PASSES] {
+        for max_iter in self.passes {
             let (theirs, ours) = (self.rust(max_iter), self.ours(max_iter));
             assert_eq!(theirs, ours, "different bits, side {}", self.side);
             assert_eq!((0, max_iter), (ours.0, ours.1), "number or passes, side {}", self.side);
@@ -147,13 +173,14 @@ fn median(mut xs: Vec<f64>) -> f64 {
 /// the medians of document 000 and of the library, taken in turn
 fn measured(case: &mut Case, rounds: usize) -> [Times; 2] {
     let mut taken = [const { Vec::new() }; 4];
-    let (whole, none) = (repeats(|| case.rust(PASSES)), repeats(|| case.rust(0)));
+    let [many, few] = case.passes;
+    let (whole, none) = (repeats(|| case.rust(many)), repeats(|| case.rust(few)));
     let start = now();
     while taken[0].len() < rounds || now() - start < LONG {
-        taken[0].push(timed(whole, || case.rust(PASSES)));
-        taken[1].push(timed(whole, || case.ours(PASSES)));
-        taken[2].push(timed(none, || case.rust(0)));
-        taken[3].push(timed(none, || case.ours(0)));
+        taken[0].push(timed(whole, || case.rust(many)));
+        taken[1].push(timed(whole, || case.ours(many)));
+        taken[2].push(timed(none, || case.rust(few)));
+        taken[3].push(timed(none, || case.ours(few)));
     }
     let [a, b, c, d] = taken.map(median);
     [Times { whole: a, none: c }, Times { whole: b, none: d }]
@@ -173,6 +200,23 @@ fn line(case: &Case, [theirs, ours]: [Times; 2]) -> String {
         three(theirs.none, ours.none, n),
         theirs.whole / ours.whole,
     )
+}
+
+/// poses far from rest, the shift as a share of the side, and phases of the waves at which a second pass goes through: a steep turn, and half a frame
+/// down
+const FAR: [(&str, [f64; 3], [f64; 3]); 2] = [("turned by 1.2", [0.0, 0.9, 2.7], [1.2, 0.0, 0.0]), ("half a frame", [0.0, 1.8, 2.7], [0.0, 0.0, 0.5])];
+
+/// a second table: a pass at a far pose
+fn far(side: usize, rounds: usize) {
+    println!("\nOne pass at a far pose, {side}x{side}: the second of a call, whose first pass led there.");
+    println!("{:>16} {:>5} | {:>6} {:>6} {:>5}", "pose", "rows", "000", "ours", "ratio");
+    for (name, phases, [theta, tx, ty]) in FAR {
+        let mut case = Case::far(side, phases, [theta, tx * side as f64, ty * side as f64]);
+        case.check();
+        let [theirs, ours] = measured(&mut case, rounds);
+        let (a, b, n) = (theirs.passes(), ours.passes(), case.pixels() as f64);
+        println!("{name:>16} {:>5} | {:>6.2} {:>6.2} {:>5.2}", case.rows(), a / n, b / n, a / b);
+    }
 }
 
 /// nanoseconds that the rules' sine and cosine take the oracle in a pass: twice each
@@ -208,6 +252,7 @@ fn main() {
             }
         }
     }
+    far(350, rounds);
     println!("\nEvery call: number 0, all passes, the same bits on both sides. Medians of {rounds} rounds or more.");
     println!("The oracle has the rules' sine and cosine in place of the machine's: {:.0} ns a pass.", mathematics());
 }

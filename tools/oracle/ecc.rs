@@ -63,6 +63,13 @@ pub fn resized(width: usize, height: usize, edge: Option<usize>) -> (usize, usiz
     (tw, th, sx, sy)
 }
 
+/// the first and the last row of w pixels that hold a mark, or none
+pub fn marked_rows(valid: &[bool], w: usize) -> Option<(usize, usize)> {
+    let first = valid.iter().position(|&v| v)?; // 02: request 8
+    let last = valid.iter().rposition(|&v| v)?;
+    Some((first / w, last / w))
+}
+
 /// how many words n marks take, sixty-four to a word
 pub fn words(n: usize) -> usize {
     n.div_ceil(64) // 02: request 5

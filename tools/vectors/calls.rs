@@ -3,7 +3,8 @@
 //!
 //! Document 01's cases 2 and 10, where they have no star, are on the list: filter 33 (`refused_settings`), filter 31 taken (`settings`),
 //! a side of 4,096 taken and one of 4,097 refused by 2 (`limits`), 12n-1 floats refused by 4 (`refused_room`). Marks are lent in words of
-//! sixty-four (document 02, request 5); pixels at, just below and just above a whole word are in `whole_words`.
+//! sixty-four (document 02, request 5); pixels at, just below and just above a whole word are in `whole_words`. Poses that leave whole rows
+//! without a mark (request 8) are in `far`.
 //!
 //! What is not on the list. Number 7 can't be had: prepared pixels stay below 2^22, so both norms are finite, and their product is no zero
 //! once each is above 1e-6. Number 9 is here by lambda_d <= 0 and number 10 by theta outside -2..2. Nine million small calls gave none by
@@ -21,7 +22,7 @@ mod lines;
 #[path = "../oracle/rules.rs"]
 mod rules;
 use ecc::{EccConfig, Outcome};
-use frames::{pair, seen};
+use frames::{jumped, pair, seen};
 use lines::{Line, Stream};
 
 const LAST: usize = usize::MAX;
@@ -360,6 +361,20 @@ fn small(s: &mut Stream) -> Call {
     }
 }
 
+/// frames whose first pass leads far away, so that the next passes mark few rows or none: steep turns, large shifts, both
+fn far() -> Vec<Call> {
+    let mut all = Vec::new();
+    for (i, &(w, h)) in [(20, 16), (12, 24), (9, 7)].iter().enumerate() {
+        let (x, y) = (w as f64, h as f64);
+        for pose in [[1.2, 0.0, 0.0], [-0.6, 0.0, y / 3.0], [0.0, 0.0, y / 2.0], [0.0, 0.0, -y / 2.0], [0.0, x / 2.0, 0.0], [0.3, -x / 3.0, -y / 3.0], [0.0, 0.0, 2.0 * y]] {
+            let phases = [i as f64, 2.0, 0.4 + pose[0]];
+            let (template, input) = jumped(phases, w, h, pose);
+            all.extend([call(w, h, &template, &input).eps(-1.0).passes(2), call(w, h, &template, &input).filter(5).passes(30)]);
+        }
+    }
+    all
+}
+
 /// what a call that ends rarely so is looked for as: its number, whether it ends after the first pass, and for a pose whether it lies far
 /// away; poses are looked for only far away or settled after many passes
 fn sort(c: &Call) -> Option<(u8, bool, bool)> {
@@ -406,6 +421,7 @@ fn main() {
         ("rare ends", rare(&mut s)),
         ("small calls", (0..150).map(|_| small(&mut s)).collect()),
         ("marks at whole words", whole_words(&mut s)),
+        ("far poses", far()),
     ];
     for (name, calls) in groups {
         println!("# {}", name);

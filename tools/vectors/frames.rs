@@ -1,4 +1,4 @@
-//! Made frames: a smooth texture seen from a pose, a board, small frames of many sorts and pairs of them, nearly flat ones. Each depends on its arguments alone.
+//! Made frames: a smooth texture seen from a pose, a pair whose first pass leads far away, a board, small frames of many sorts and pairs of them, nearly flat ones. Each depends on its arguments alone.
 
 use ecc;
 use lines::{below, Stream};
@@ -23,6 +23,34 @@ pub fn seen(seed: u64, cell: f32, w: usize, h: usize, pose: [f32; 3]) -> Vec<u8>
         (row(j) * (1.0 - b) + row(j + 1) * b + 0.5) as u8
     };
     (0..w * h).map(|i| pixel((i % w) as f32, (i / w) as f32)).collect()
+}
+
+/// long waves: how fast each runs across and down in a frame of 350 pixels, and how high it is
+const WAVES: [[f64; 3]; 3] = [[0.031, 0.012, 1.0], [-0.014, 0.027, 1.0], [0.019, -0.022, 0.8]];
+
+/// their sum at a point, and its slopes across and down; `long` is the frame's longer side
+fn wave(phases: [f64; 3], long: f64, x: f64, y: f64) -> [f64; 3] {
+    let mut sum = [0.0; 3];
+    for ([across, down, high], phase) in WAVES.iter().zip(phases) {
+        let (across, down) = (across * 350.0 / long, down * 350.0 / long);
+        let (s, c) = (across * x + down * y + phase).sin_cos();
+        sum = [sum[0] + high * s, sum[1] + high * across * c, sum[2] + high * down * c];
+    }
+    sum
+}
+
+/// a template and an input of which the first pass ends near a pose, however far it is: the template is the input and what the pose adds to it
+/// to first order, gx * (tx - theta * y) + gy * (ty + theta * x), which is what a pass solves for
+pub fn jumped(phases: [f64; 3], w: usize, h: usize, pose: [f64; 3]) -> (Vec<u8>, Vec<u8>) {
+    let at = |i: usize| {
+        let (x, y) = ((i % w) as f64, (i / w) as f64);
+        let [v, gx, gy] = wave(phases, w.max(h) as f64, x, y);
+        (v + gx * (pose[1] - pose[0] * y) + gy * (pose[2] + pose[0] * x), v)
+    };
+    let both: Vec<(f64, f64)> = (0..w * h).map(at).collect();
+    let high = both.iter().fold(1.0, |m: f64, b| m.max(b.0.abs()).max(b.1.abs()));
+    let level = |v: f64| (128.0 + 126.0 * v / high).round() as u8;
+    both.iter().map(|b| (level(b.0), level(b.1))).unzip()
 }
 
 /// a board of black and white squares, seen so many pixels further right

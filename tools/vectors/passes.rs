@@ -1,4 +1,4 @@
-//! Vectors for the parts of a pass, from the oracle (tools/oracle): warp, centred statistics, inverse. Each line is a kind and its words in
+//! Vectors for the parts of a pass, from the oracle (tools/oracle): warp, centred statistics, inverse, rows that hold a mark. Each line is a kind and its words in
 //! hexadecimal; floats stand by their bit patterns. tools/vectors/make runs it.
 
 #[allow(dead_code)]
@@ -114,9 +114,46 @@ fn inverse(s: &mut Stream) {
     }
 }
 
+/// marks of each sort: none, all, one pixel at each end of a row, one row, some rows, noise thick and thin, and the marks of a far pose
+fn masks(s: &mut Stream, w: usize, h: usize) -> Vec<Vec<bool>> {
+    let n = w * h;
+    let only = |f: &dyn Fn(usize, usize) -> bool| (0..n).map(|i| f(i % w, i / w)).collect::<Vec<bool>>();
+    let (a, b) = (s.next() as usize % h, s.next() as usize % h);
+    let mut all = vec![vec![false; n], vec![true; n], only(&|_, y| y == a), only(&|_, y| y >= a.min(b) && y <= a.max(b))];
+    for y in [0, a, h - 1] {
+        all.extend([only(&|i, j| i == 0 && j == y), only(&|i, j| i == w - 1 && j == y)]);
+    }
+    all.push(only(&|x, y| (y == a && x == w - 1) || (y == b && x == 0)));
+    all.extend([2, 8, 60].map(|thin| (0..n).map(|_| s.next() % thin == 0).collect()));
+    for pose in [[1.2, 0.0, 0.0], [0.0, 0.0, h as f32 / 2.0], [-0.7, w as f32 / 3.0, 0.0], [0.0, -1.5, -(h as f32) / 2.0]] {
+        let (map, zero) = (ecc::affine_from_theta_tx_ty(pose[0], pose[1], pose[2]), vec![0.0; n]);
+        let (mut out, mut valid) = ([zero.clone(), zero.clone(), zero.clone()], vec![false; n]);
+        let [a, b, c] = &mut out;
+        ecc::warp_three_inverse_map(&zero, &zero, &zero, w, h, &map, a, b, c, &mut valid);
+        all.push(valid);
+    }
+    all
+}
+
+fn rows(s: &mut Stream) {
+    println!("# rows that hold a mark: sides, marks; 1 and the first and the last, or 0");
+    for (w, h) in [(5, 5), (1, 1), (1, 9), (9, 1), (8, 8), (64, 3), (63, 4), (65, 4), (32, 32), (3, 43), (200, 5)] {
+        for valid in masks(s, w, h) {
+            let marks: Vec<u8> = valid.iter().map(|v| *v as u8).collect();
+            let line = Line::new(28).words(&[w, h]).bytes(&marks);
+            let line = match ecc::marked_rows(&valid, w) {
+                Some((first, last)) => line.words(&[1, first, last]),
+                None => line.words(&[0]),
+            };
+            println!("{}", line.0);
+        }
+    }
+}
+
 fn main() {
     let mut s = Stream(20260103);
     warp(&mut s);
     stats(&mut s);
     inverse(&mut s);
+    rows(&mut s);
 }

@@ -15,8 +15,9 @@ use Rattle.pose.specs.declared.Map.{Map}
 use Rattle.pose.specs.declared.Pose.{Pose}
 use Rattle.bits.specs.Words.{unpackedOf}
 use Rattle.warp.specs.Warp.{warpOf, Warped}
+use Rattle.warp.specs.declared.Found.{Found}
 use Rattle.warp.proofs.Sizes.{length-warp}
-use Rattle.pass.proofs.Front.{front}
+use Rattle.warp.proofs.Marks.{front}
 use Rattle.moves.specs.Moves.{WholeMove, AllFinite, MovedBy}
 use Rattle.moves.specs.Calls as call
 use Rattle.moves.proofs.Moves.{move-is-exact}
@@ -40,7 +41,7 @@ module _ (map : Map) (w h : ℕ) (xs : List Float) (fits : 6 * (w * h) ≤ lengt
   image-is (suc (suc (suc k))) l = absurd (omega arith)
 
 -- what the contract says of a warp by such a map
-images-moved : (map : Map) (w h : ℕ) (xs : List Float) (ws : List ℕ) (xs′ : List Float) (ws′ : List ℕ) (r k : ℕ) (p : Pose) (tx ty : ℤ) → InRange w h → 6 * (w * h) ≤ length xs → wordsFor (w * h) ≤ length ws →
+images-moved : (map : Map) (w h : ℕ) (xs : List Float) (ws : List ℕ) (xs′ : List Float) (ws′ : List ℕ) (r : Found) (k : ℕ) (p : Pose) (tx ty : ℤ) → InRange w h → 6 * (w * h) ≤ length xs → wordsFor (w * h) ≤ length ws →
     map ≡ affineFromThetaTxTy p → WholeMove p tx ty → k < 3 → AllFinite (image (w * h) k xs) (w * h) → Warped map w h xs ws xs′ ws′ r → MovedBy tx ty w h (image (w * h) k xs) (image (w * h) (3 + k) xs′) (unpackedOf ws′ (w * h))
 images-moved map w h xs ws xs′ ws′ r k p tx ty range fits room is m l all o =
     subst₂ (λ (out : List Float) (ms : List ℕ). MovedBy tx ty w h (image (w * h) k xs) out ms)

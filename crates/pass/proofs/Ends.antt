@@ -3,12 +3,17 @@ use Prim.Native.Nat.{ℕ, _*_, _≤_, _<_}
 use mathlib.Core.Path.{_≡_, sym, _∙_}
 use mathlib.Core.Bool.{true, false}
 use mathlib.Core.List.{List}
+use native.Mathlib.Omega.{arith}
 use lib.Dec.{ltb}
 use lib.Ieee.{Float}
 use borrow.Author.Tests.{lt-ltb, le-ltb}
 use Rattle.lists.specs.Marked.{pick}
 use Rattle.lists.proofs.Cases.{pick-true, pick-false}
 use Rattle.marks.specs.Marks.{countOn}
+use Rattle.rows.specs.Rows.{markedRowsOf}
+use Rattle.rows.specs.declared.MarkedRows.{MarkedRows}
+use Rattle.rows.specs.declared.MarkedRows.the-variants.{Bare}
+use Rattle.rows.proofs.Between.{bare-count}
 use Rattle.pose.specs.Pose.{affineFromThetaTxTy}
 use Rattle.pose.specs.declared.Map.{Map}
 use Rattle.pose.specs.declared.Pose.{Pose}
@@ -69,3 +74,7 @@ module _ (template input gx gy : List Float) (w h : ℕ) (eps : Float) (p : Pose
 
     pub enough-marks : 16 ≤ found → (r : Step) → r ≡ weighed → r ≡ passOf template input gx gy w h eps p last
     enough-marks l r q = q ∙ sym (pick-false _ _ _ (rw (← is-found) (le-ltb found 16 l))) ∙ by-map
+
+  -- no row holds a mark: none is counted
+  pub no-marks : (rows : MarkedRows) → rows ≡ markedRowsOf (marksOf map w h) w h → rows ≡ Bare → Step.Refuse 5 ≡ passOf template input gx gy w h eps p last
+  no-marks rows e k = few-marks 0 (sym (bare-count (marksOf map w h) w h (sym e ∙ k))) (omega arith)

@@ -1,6 +1,6 @@
 -- The words after the warp: they stand for the warp's marks, and those past them stay. Assumes nothing.
 use Prim.Native.Nat.{ℕ, _*_, _≤_}
-use mathlib.Core.Path.{_≡_, ap, _∙_}
+use mathlib.Core.Path.{_≡_, sym, _∙_}
 use mathlib.Core.List.{List}
 use native.Mathlib.Omega.{arith}
 use lib.ListN.{length}
@@ -9,20 +9,20 @@ use Rattle.lists.specs.Marked.{wordsFor}
 use Rattle.lists.proofs.Put.{length-put, drop-put}
 use Rattle.marks.specs.Marks.{countOn}
 use Rattle.bits.specs.Words.{wordsOf, unpackedOf}
-use Rattle.bits.specs.Equal.{BytesBack}
-use Rattle.bits.proofs.Equal.{bytes-back, length-words-of}
+use Rattle.bits.proofs.Equal.{length-words-of}
+use Rattle.rows.specs.Rows.{markedRowsOf}
+use Rattle.rows.specs.declared.MarkedRows.{MarkedRows}
 use Rattle.pose.specs.declared.Map.{Map}
 use Rattle.places.specs.Point.{marksOf}
-use Rattle.places.proofs.Sizes.{length-marks, mark-few}
+use Rattle.warp.proofs.Marks.{front}
 use Rattle.pass.specs.Kept.{KeptMarks}
 
 module _ (map : Map) (w h : ℕ) (ws ws′ : List ℕ) (room : wordsFor (w * h) ≤ length ws) (is-ws′ : ws′ ≡ put ws 0 (wordsOf (marksOf map w h) (w * h))) where
-  pub front : unpackedOf ws′ (w * h) ≡ marksOf map w h
-  unfolding BytesBack
-  front = ap (λ (z : List ℕ). unpackedOf z (w * h)) is-ws′ ∙ bytes-back (marksOf map w h) ws (w * h) room (length-marks map w h) (mark-few map w h)
-
   pub count-front : (found : ℕ) → found ≡ countOn (marksOf map w h) (w * h) → found ≡ countOn (unpackedOf ws′ (w * h)) (w * h)
-  count-front found e = rw front e
+  count-front found e = rw (front map w h ws ws′ room is-ws′) e
+
+  pub rows-front : (found q : MarkedRows) → found ≡ markedRowsOf (marksOf map w h) w h → found ≡ q → markedRowsOf (unpackedOf ws′ (w * h)) w h ≡ q
+  rows-front found q e k = rw (front map w h ws ws′ room is-ws′) (sym e ∙ k)
 
   pub kept-marks : KeptMarks (w * h) ws ws′
   kept-marks =

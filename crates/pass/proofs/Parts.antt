@@ -18,7 +18,6 @@ use Rattle.sums.specs.Sums.{steepOf}
 use Rattle.solve.specs.Solve.{solveOf}
 use Rattle.pass.specs.Kept.{CentredWork}
 use Rattle.solve.specs.declared.Step.{Step}
-use Rattle.sums.proofs.Rows.{length-steep}
 use Rattle.warp.proofs.Sizes.{length-warp}
 
 -- an image that lies within the list
@@ -87,14 +86,17 @@ module _ (ms : List ℕ) (w h : ℕ) (p : Pose) (s : Stats) (rho : Float) (xs : 
   abbrev j0 : List Float
   j0 = steepOf w h (p .theta) (image (w * h) 6 xs) (image (w * h) 7 xs)
 
-  pub steep-back : (ys : List Float) → ys ≡ setImage (w * h) 5 (steepOf w h (p .theta) (image (w * h) 0 from-six) (image (w * h) 1 from-six)) from-six →
-      whole (w * h) 6 xs ys ≡ setImage (w * h) 11 j0 xs
-  steep-back ys e =
-      let f : 6 * (w * h) + 6 * (w * h) ≤ length xs = omega arith in
-      back (w * h) 6 xs f ys
-      ((5, j0) ∷ [])
-      (length-steep _ _ _ _ _, omega arith, tt)
-      (rw (read (w * h) 6 xs f 0 (omega arith), read (w * h) 6 xs f 1 (omega arith)) at e)
+  pub steep-back : (ys : List Float) → length ys ≡ length from-six → ys ≡ setImage (w * h) 5 (image (w * h) 5 ys) from-six →
+      whole (w * h) 6 xs ys ≡ setImage (w * h) 11 (image (w * h) 11 (whole (w * h) 6 xs ys)) xs
+  steep-back ys same e =
+      let n = w * h in
+      let f : 6 * n + 6 * n ≤ length xs = omega arith in
+      let size : 6 * n ≤ length ys = rw same (simp (length-take, length-drop) (omega arith)) in
+      let J = image n 5 ys in
+      let fit : length J ≡ n = length-image n 5 ys (omega arith) in
+      let is : whole n 6 xs ys ≡ setAll n ((11, J) ∷ []) xs = back n 6 xs f ys ((5, J) ∷ []) (fit, omega arith, tt) e in
+      let there : image n 11 (whole n 6 xs ys) ≡ J = ap (image n 11) is ∙ image-later n xs [] (11, J) [] (fit, omega arith, tt) tt in
+      rw there is
 
   pub solve-back : (r : Step) → r ≡ solveOf ms (w * h) p (steepOf w h (p .theta) (image (w * h) 0 from-six) (image (w * h) 1 from-six)) (image (w * h) 0 from-six) (image (w * h) 1 from-six) (image (w * h) 3 from-six) (image (w * h) 4 from-six) s rho →
       r ≡ solveOf ms (w * h) p j0 (image (w * h) 6 xs) (image (w * h) 7 xs) (image (w * h) 9 xs) (image (w * h) 10 xs) s rho

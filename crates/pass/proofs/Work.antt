@@ -1,6 +1,6 @@
 -- The work slice within a pass: after its warp, after its centring, and with j0 in it; what a pass reads there, and what stays. Assumes nothing.
 use Prim.Native.Nat.{ℕ, _*_, _≤_}
-use mathlib.Core.Path.{_≡_, sym, ap, _∙_, subst}
+use mathlib.Core.Path.{_≡_, refl, sym, ap, _∙_, subst}
 use mathlib.Core.List.{List, [], _∷_}
 use native.Mathlib.Omega.{arith}
 use lib.ListN.{length}
@@ -18,7 +18,6 @@ use Rattle.solve.specs.Solve.{solveOf}
 use Rattle.solve.specs.declared.Step.{Step}
 use Rattle.pass.specs.Pass.{weighedOf}
 use Rattle.pass.specs.Kept.{Kept, CentredWork}
-use Rattle.sums.proofs.Rows.{length-steep}
 use Rattle.warp.proofs.Sizes.{length-warp}
 use Rattle.solve.proofs.Agree.{solve-agree}
 use Rattle.pass.proofs.Parts.{length-image}
@@ -84,8 +83,8 @@ module _ (ms : List ℕ) (w h : ℕ) (xs : List Float) (fits : 12 * (w * h) ≤ 
   pub solved-there : (p : Pose) (rho : Float) (r : Step) →
       r ≡ solveOf ms (w * h) p (steepOf w h (p .theta) (image (w * h) 6 ys) (image (w * h) 7 ys)) (image (w * h) 6 ys) (image (w * h) 7 ys) (image (w * h) 9 ys) (image (w * h) 10 ys) s rho →
       r ≡ solveOf ms (w * h) p (steepOf w h (p .theta) (image (w * h) 6 xs) (image (w * h) 7 xs)) (image (w * h) 6 xs) (image (w * h) 7 xs) tz iz s rho
-  solved-there p rho r q = rw (gx-there, gy-there) at q ∙ solve-agree ms (w * h) p _ _ _ _ _ _ _ s rho (o .template) (o .warped)
+  solved-there p rho r q = rw (gx-there, gy-there) at q ∙ solve-agree ms (w * h) p _ _ _ _ _ _ _ _ s rho (λ i l m. refl) (o .template) (o .warped)
 
-  pub kept-solve : (theta : Float) (zs : List Float) → zs ≡ setImage (w * h) 11 (steepOf w h theta (image (w * h) 6 ys) (image (w * h) 7 ys)) ys → Kept (w * h) xs zs
-  kept-solve theta zs e =
-      kept-kept kept-centre (rw e (kept-sets (w * h) ys ((11, steepOf w h theta (image (w * h) 6 ys) (image (w * h) 7 ys)) ∷ []) (length-steep _ _ _ _ _, omega arith, tt) (omega arith, omega arith, omega arith, tt)))
+  pub kept-solve : (zs : List Float) → length zs ≡ length ys → zs ≡ setImage (w * h) 11 (image (w * h) 11 zs) ys → Kept (w * h) xs zs
+  kept-solve zs size e =
+      kept-kept kept-centre (subst (Kept (w * h) ys) (sym e) (kept-sets (w * h) ys ((11, image (w * h) 11 zs) ∷ []) (length-image (w * h) 11 zs (omega arith), omega arith, tt) (omega arith, omega arith, omega arith, tt)))

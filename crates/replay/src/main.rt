@@ -7,10 +7,11 @@ use libc::STDOUT_FILENO;
 use words::Line;
 
 fn agrees(kind: u64, words: &[u64]) -> bool {
-    if kind > 25 {
-        return calls::agrees(kind, words);
+    match kind {
+        26 => calls::agrees(kind, words),
+        27 => calls::agrees(kind, words),
+        _ => vectors::agrees(words),
     }
-    vectors::agrees(words)
 }
 
 // Counts the vector that the first n words hold, by its kind.
@@ -100,6 +101,7 @@ fn report_passes(seen: &[u64], agreed: &[u64]) {
     report(b"try_inverse", 25, seen, agreed);
     report(b"whole calls", 26, seen, agreed);
     report(b"driver numbers", 27, seen, agreed);
+    report(b"marked rows", 28, seen, agreed);
 }
 
 fn main() {

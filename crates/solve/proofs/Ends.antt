@@ -1,4 +1,4 @@
--- How a pass ends, by what the inverse and lambda come to; and the part with j0 in it, which leaves the images that were read as they were. Assumes nothing.
+-- How a pass ends, by what the inverse and lambda come to. Assumes nothing.
 use Prim.Native.Nat.{ℕ, _*_, _≤_}
 use mathlib.Core.Path.{_≡_, refl, sym, ap, ap₂, _∙_}
 use mathlib.Core.Bool.{Bool, true, false}
@@ -107,15 +107,3 @@ module _ (ms : List ℕ) (n : ℕ) (p : Pose) (j0 j1 j2 tz iz : List Float) (s :
       pub one-lambda : (l : Float) → q ≡ Is l → (ep delta : Vector3) → ep ≡ projOf ms n j0 j1 j2 (errorOf n l tz iz) → delta ≡ timesOf h ep →
           movedOf p delta rho ≡ solveOf ms n p j0 j1 j2 tz iz s rho
       one-lambda l k ep delta ee ed = ap (λ (d : Vector3). movedOf p d rho) (ed ∙ ap (timesOf h) ee) ∙ sym (ap (answer to-move) k) ∙ by-lambda
-
--- ---- the part with j0 in its image 5
-module _ (ms : List ℕ) (p : Pose) (s : Stats) (rho : Float) (w h : ℕ) (theta : Float) (gx gy xs ys : List Float) (is-ys : ys ≡ setImage (w * h) 5 (steepOf w h theta gx gy) xs) (fits : 6 * (w * h) ≤ length xs) where
-  j0-there : image (w * h) 5 ys ≡ steepOf w h theta gx gy
-  j0-there = ap (image (w * h) 5) is-ys ∙ image-set (w * h) 5 xs _ (length-steep w h theta gx gy) (omega arith)
-
-  image-kept : (k : ℕ) → (k ≡ 5 → ⊥) → image (w * h) k ys ≡ image (w * h) k xs
-  image-kept k d = ap (image (w * h) k) is-ys ∙ image-set-other (w * h) k 5 xs _ (length-steep w h theta gx gy) (omega arith) d
-
-  pub solve-back : solveOf ms (w * h) p (image (w * h) 5 ys) (image (w * h) 0 ys) (image (w * h) 1 ys) (image (w * h) 3 ys) (image (w * h) 4 ys) s rho
-      ≡ solveOf ms (w * h) p (steepOf w h theta gx gy) (image (w * h) 0 xs) (image (w * h) 1 xs) (image (w * h) 3 xs) (image (w * h) 4 xs) s rho
-  solve-back = rw (j0-there, image-kept 0 (omega arith), image-kept 1 (omega arith), image-kept 3 (omega arith), image-kept 4 (omega arith))

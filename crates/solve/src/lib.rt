@@ -1,10 +1,12 @@
 // The second half of a pass: the inverse, lambda, and the update of the pose, from the sums over the marked pixels.
 //
 // It is lent six images one after another: 0 and 1 the warped gradients, 3 and 4 the centred template and image; it leaves j0 in
-// image 5. Image 2 is not looked at.
+// image 5, in the rows that hold a mark. Image 2 is not looked at.
 use inverse::Inverse;
 use inverse::Matrix3;
 use inverse::Vector3;
+use rows::MarkedRows;
+use rows::Rows;
 ghost use mathlib.Core.Path.{_≡_};
 ghost use Prim.Native.Nat.{_*_, _≤_};
 ghost use lib.Ieee.{le};
@@ -17,6 +19,7 @@ ghost use Rattle.floats.specs.Bound.{Within};
 ghost use Rattle.floats.specs.F32.{_⊖_, _⊗_, _⊘_, 0f};
 ghost use Rattle.inverse.specs.Inverse.{timesOf, dotOf};
 ghost use Rattle.bits.specs.Words.{unpackedOf};
+ghost use Rattle.rows.specs.Rows.{markedRowsOf};
 ghost use Rattle.sums.specs.Sums.{steepOf};
 ghost use Rattle.solve.specs.Solve.{movedOf, solveOf};
 
@@ -70,34 +73,37 @@ fn moved(at: pose::Pose, delta: Vector3, rho: f32) -> Step
     Step::Refuse(10)
 }
 
-// Steepest descent, the sums, the inverse, lambda and the update, with the refusals 8, 9 and 10.
+// Steepest descent, the sums, the inverse, lambda and the update, with the refusals 8, 9 and 10. `rows` are the first and the last that hold a
+// mark: no others are walked.
 pub fn solve(
     part: &mut [f32],
     marks: &[u64],
     w: usize,
     h: usize,
+    rows: Rows,
     at: pose::Pose,
     s: stats::Stats,
     rho: f32,
 ) -> Step
-    requires { ⌜ InRange w h × (6 * (w * h) ≤ length (now part)) × (wordsFor (w * h) ≤ length (now marks)) × Within (at .theta) 2 1 ⌝ }
-    ensures { λ r. ⌜
-        now (part .exit) ≡ setImage (w * h) 5
-        (steepOf w h (at .theta) (image (w * h) 0 (now (part .entry))) (image (w * h) 1 (now (part .entry)))) (now (part .entry))
+    requires { ⌜
+        InRange w h × (6 * (w * h) ≤ length (now part)) × (wordsFor (w * h) ≤ length (now marks))
+        × (markedRowsOf (unpackedOf (now marks) (w * h)) w h ≡ MarkedRows.Span rows) × Within (at .theta) 2 1
         ⌝ }
+    ensures { λ r. ⌜ now (part .exit) ≡ setImage (w * h) 5 (image (w * h) 5 (now (part .exit))) (now (part .entry)) ⌝ }
     ensures { λ r. ⌜ r ≡ solveOf (unpackedOf (now (marks .entry)) (w * h)) (w * h) at
         (steepOf w h (at .theta) (image (w * h) 0 (now (part .entry))) (image (w * h) 1 (now (part .entry))))
         (image (w * h) 0 (now (part .entry))) (image (w * h) 1 (now (part .entry))) (image (w * h) 3 (now (part .entry))) (image (w * h) 4 (now (part .entry))) s rho ⌝ }
 {
     let n = w * h;
-    sums::steep(part, w, h, at.theta);
-    let sums = sums::project(part, marks, n);
+    let span = rows::pixels(rows, w);
+    sums::steep(part, w, h, rows.first, rows.last, at.theta);
+    let sums = sums::project(part, marks, n, span.from, span.to);
     let Inverse::Exists(h_inv) = inverse::try_inverse(sums.h) else {
         return Step::Refuse(8);
     };
     let Lambda::Is(lambda) = lambda_of(h_inv, sums.image_proj, sums.template_proj, s) else {
         return Step::Refuse(9);
     };
-    let error_proj = sums::errors(part, marks, n, lambda);
+    let error_proj = sums::errors(part, marks, n, span.from, span.to, lambda);
     moved(at, inverse::times(h_inv, error_proj), rho)
 }

@@ -11,7 +11,6 @@ use lib.Ieee.{Float, nan}
 use Rattle.lists.specs.Lists.{image}
 use Rattle.lists.specs.Marked.{pick, overMarked, overRange}
 use Rattle.lists.proofs.Cases.{pick-true}
-use Rattle.lists.proofs.Fold.{over-none}
 use Rattle.lists.proofs.Grow.{getD-tab}
 use Rattle.lists.proofs.Images.{getD-image, getD-place}
 use Rattle.marks.specs.Marks.{on}
@@ -20,6 +19,8 @@ use Rattle.bits.specs.Stretches.{StretchOf}
 use Rattle.bits.specs.declared.Stretch.{Stretch}
 use Rattle.bits.proofs.Scan.{lt-or-le}
 use Rattle.bits.proofs.Stretches.{stretch-bare, stretch-turn}
+use Rattle.rows.specs.Between.{Between, FoldBetween}
+use Rattle.rows.proofs.Between.{fold-between}
 use Rattle.floats.specs.F32.{_⊕_, _⊖_, _⊗_, 0f}
 use Rattle.root.specs.Root.{sqrtOf}
 use Rattle.stats.specs.Stats.{meanOf, centredOf, productOf, statsOf, Centred}
@@ -58,31 +59,55 @@ module _ (ws : List ℕ) (n : ℕ) (mean : Means) (xs : List Float) where
   pub threeOf : ℕ → Products
   threeOf i = overMarked (on ms) (add-three n mean xs) (0f, 0f, 0f) i
 
-  pub centred-none : CentredTo 0 xs
-  centred-none = record { size = refl; before = refl; after = refl; template = λ k l. absurd (omega arith); warped = λ k l. absurd (omega arith) }
+  -- where the marks begin, and where they end
+  module _ (from to : ℕ) (o : Between ms n from to) where
+    pub centred-none : CentredTo from xs
+    centred-none = record {
+      size = refl;
+      before = refl;
+      after = refl;
+      template = λ k l m. absurd (true≢false (sym m ∙ o .before k l));
+      warped = λ k l m. absurd (true≢false (sym m ∙ o .before k l));
+    }
 
-  pub three-none : _≡_ {A = Products} (0f, 0f, 0f) (threeOf 0)
-  unfolding threeOf
-  three-none = sym (over-none (on ms) (add-three n mean xs) (0f, 0f, 0f))
+    all-marked : (b : ℕ) (f : ℕ → Float) (part : List Float) → AtMarked ms b to f part → AtMarked ms b n f part
+    all-marked b f part so-far k l m = elim (lt-or-le k to) [ inl h ↦ so-far k h m | inr h ↦ absurd (true≢false (sym m ∙ o .behind k h l)) ]
 
-  module _ (fits : 6 * n ≤ length xs) (i : ℕ) (r : Stretch) (o : StretchOf ws i n r) (part : List Float) (so-far : CentredTo i part) where
+    pub centred-all : (part : List Float) → CentredTo to part → CentredTo n part
+    centred-all part c = record {
+      size = c .size;
+      before = c .before;
+      after = c .after;
+      template = all-marked (4 * n) _ part (c .template);
+      warped = all-marked (5 * n) _ part (c .warped);
+    }
+
+    pub three-none : _≡_ {A = Products} (0f, 0f, 0f) (threeOf from)
+    unfolding threeOf FoldBetween
+    three-none = fold-between Products ms n from to o (add-three n mean xs) (0f, 0f, 0f) .0
+
+    pub three-all : threeOf to ≡ threeOf n
+    unfolding threeOf FoldBetween
+    three-all = fold-between Products ms n from to o (add-three n mean xs) (0f, 0f, 0f) .1
+
+  module _ (fits : 6 * n ≤ length xs) (e i : ℕ) (r : Stretch) (within : e ≤ n) (o : StretchOf ws i e r) (part : List Float) (so-far : CentredTo i part) where
     pub centred-turn : (part′ : List Float) → part′ ≡ filled n (r .from) mean part (r .to - r .from) → CentredTo (r .to) part′
-    centred-turn part′ e =
+    centred-turn part′ is =
         let room : 6 * n ≤ length part = omega arith in
-        let few : r .to ≤ n = o .high in
-        rw e (record {
+        let few : r .to ≤ n = omega (arith, o .high) in
+        rw is (record {
           size = all-size n (r .from) mean part (r .to) (o .order) few room ∙ so-far .size;
           before = filled-take n (r .from) mean part (r .to) (o .order) few room (r .to) (o .order) (omega arith) ∙ so-far .before;
           after = all-drop n (r .from) mean part (r .to) (o .order) few room ∙ so-far .after;
-          template = further ms i (r .from) (r .to) (4 * n) _ _ part _ (so-far .template) (t-through n (r .from) mean part (r .to) (o .order) few room) (stretch-bare ws n n i r (omega arith) o)
+          template = further ms i (r .from) (r .to) (4 * n) _ _ part _ (so-far .template) (t-through n (r .from) mean part (r .to) (o .order) few room) (stretch-bare ws n e i r within o)
               (λ k l. t-same n mean xs part (so-far .before) k (omega arith));
-          warped = further ms i (r .from) (r .to) (5 * n) _ _ part _ (so-far .warped) (i-through n (r .from) mean part (r .to) (o .order) few room) (stretch-bare ws n n i r (omega arith) o)
+          warped = further ms i (r .from) (r .to) (5 * n) _ _ part _ (so-far .warped) (i-through n (r .from) mean part (r .to) (o .order) few room) (stretch-bare ws n e i r within o)
               (λ k l. i-same n mean xs part (so-far .before) k (omega arith));
         })
 
     pub three-turn : (s : Products) → s ≡ threeOf i → (t : Products) → t ≡ overRange (add-three n mean part) s (r .from) (r .to - r .from) → t ≡ threeOf (r .to)
     unfolding threeOf
-    three-turn s e t q = q ∙ stretch-turn ws n n i r (omega arith) o (add-three n mean xs) (add-three n mean part) (0f, 0f, 0f) s e (λ u k h. three-same n mean xs part (so-far .before) k h u)
+    three-turn s p t q = q ∙ stretch-turn ws n e i r within o (add-three n mean xs) (add-three n mean part) (0f, 0f, 0f) s p (λ u k h. three-same n mean xs part (so-far .before) k h u)
 
 -- ---- at the end
 
@@ -113,9 +138,9 @@ module _ (ws : List ℕ) (n : ℕ) (xs : List Float) where
   i-here : (k : ℕ) → k < n → on marks k ≡ true → i-at n means xs k ≡ getD iz k nan
   i-here k l m = centred-here marks n 0 xs k k (omega arith) l m
 
-  three-all : threeOf ws n means xs n ≡ (productOf marks n tz tz, productOf marks n iz iz, productOf marks n tz iz)
+  three-products : threeOf ws n means xs n ≡ (productOf marks n tz tz, productOf marks n iz iz, productOf marks n tz iz)
   unfolding threeOf
-  three-all =
+  three-products =
       let add = add-three n means xs in
       let a = product-part marks add (0f, 0f, 0f) n (λ t. t .0) refl tz tz (λ u k l m. ap₂ (λ (x y : Float). u .0 ⊕ x ⊗ y) (t-here k l m) (t-here k l m)) in
       let b = product-part marks add (0f, 0f, 0f) n (λ t. t .1) refl iz iz (λ u k l m. ap₂ (λ (x y : Float). u .1 ⊕ x ⊗ y) (i-here k l m) (i-here k l m)) in
@@ -127,7 +152,7 @@ module _ (ws : List ℕ) (n : ℕ) (xs : List Float) where
   unfolding statsOf
   centred-end fits mean em part ct s es p q hp hq =
       let at = rw em at ct in
-      let three = es ∙ ap (λ (m : Means). threeOf ws n m xs n) em ∙ three-all in
+      let three = es ∙ ap (λ (m : Means). threeOf ws n m xs n) em ∙ three-products in
       record {
         rest = own-images n xs part fits (at .size) (at .before) (at .after);
         template = λ k l m. getD-image n 4 k part nan l ∙ at .template k l m ∙ t-here k l m;

@@ -16,6 +16,12 @@ own-run {A} a k xs ys fits same-before same-after =
     let e : length (take k (drop a ys)) ≡ k = simp (length-take, length-drop) (omega arith) in
     sym (mid-self ys a k) ∙ rw (e, drop-drop, same-before, same-after)
 
+-- one image
+pub own-image : {A : Type 0} (n k : ℕ) (xs ys : List A) → k * n + n ≤ length xs → length ys ≡ length xs → take (k * n) ys ≡ take (k * n) xs → drop (k * n + n) ys ≡ drop (k * n + n) xs →
+    ys ≡ setImage n k (image n k ys) xs
+unfolding image setImage
+own-image n k xs ys fits same-length same-before same-after = own-run (k * n) n xs ys (omega arith) same-before same-after
+
 -- THE LAW: the images 4 and 5
 pub own-images : {A : Type 0} (n : ℕ) (xs ys : List A) → 6 * n ≤ length xs → length ys ≡ length xs → take (4 * n) ys ≡ take (4 * n) xs → drop (6 * n) ys ≡ drop (6 * n) xs →
     ys ≡ setImage n 5 (image n 5 ys) (setImage n 4 (image n 4 ys) xs)

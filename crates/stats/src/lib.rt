@@ -2,7 +2,7 @@
 //
 // The statistics are lent six images one after another: image 0 is the warped image, image 3 the template; they leave the centred
 // template in image 4 and the centred image in image 5, at the marked pixels: nobody reads the others. Images 1 and 2 are not looked at.
-// Both loops go by stretches of marked pixels, in which no pixel is tested.
+// Both loops walk the pixels that all marks lie between, by stretches of marked pixels, in which no pixel is tested.
 ghost use mathlib.Core.Path.{_≡_};
 ghost use Prim.Native.Nat.{_+_, _-_, _*_, _≤_};
 ghost use lib.Ieee.{nan};
@@ -12,6 +12,7 @@ ghost use Rattle.lists.specs.Marked.{overRange, wordsFor};
 ghost use Rattle.floats.specs.F32.{_⊕_, _⊖_, _⊗_};
 ghost use Rattle.marks.specs.Marks.{countOn};
 ghost use Rattle.bits.specs.Words.{unpackedOf};
+ghost use Rattle.rows.specs.Between.{Between};
 ghost use Rattle.stats.specs.Stats.{meanOf, Centred};
 
 pub struct Stats {
@@ -44,17 +45,27 @@ fn means_stretch(part: &[f32], n: usize, from: usize, to: usize, before: Means) 
 }
 
 // The means of the template and the image over the marked pixels.
-fn means_over_mask(part: &[f32], marks: &[u64], n: usize, found: usize) -> Means
-    requires { ⌜ (n ≤ 16777216) × (found ≡ countOn (unpackedOf (now marks) n) n) × (6 * n ≤ length (now part)) × (wordsFor n ≤ length (now marks)) ⌝ }
+fn means_over_mask(
+    part: &[f32],
+    marks: &[u64],
+    n: usize,
+    from: usize,
+    to: usize,
+    found: usize,
+) -> Means
+    requires { ⌜
+        (n ≤ 16777216) × (found ≡ countOn (unpackedOf (now marks) n) n) × (6 * n ≤ length (now part)) × (wordsFor n ≤ length (now marks))
+        × Between (unpackedOf (now marks) n) n from to
+        ⌝ }
     ensures { λ r. ⌜
         (let ms = unpackedOf (now (marks .entry)) n in
         r ≡ (meanOf ms n (image n 3 (now (part .entry))), meanOf ms n (image n 0 (now (part .entry)))))
         ⌝ }
 {
     let mut s = Means(0.0, 0.0);
-    let mut i = 0;
-    while i < n {
-        let r = bits::next_stretch(marks, i, n);
+    let mut i = from;
+    while i < to {
+        let r = bits::next_stretch(marks, i, to);
         s = means_stretch(part, n, r.from, r.to, s);
         i = r.to;
     }
@@ -101,16 +112,26 @@ fn centred_stretch(
     s
 }
 
-// `found` is how many of the first n marks are set.
-pub fn centered_stats_in_place(part: &mut [f32], marks: &[u64], n: usize, found: usize) -> Stats
-    requires { ⌜ (n ≤ 16777216) × (found ≡ countOn (unpackedOf (now marks) n) n) × (6 * n ≤ length (now part)) × (wordsFor n ≤ length (now marks)) ⌝ }
+// `found` is how many of the first n marks are set; all lie from the pixel `from` on, before `to`.
+pub fn centered_stats_in_place(
+    part: &mut [f32],
+    marks: &[u64],
+    n: usize,
+    from: usize,
+    to: usize,
+    found: usize,
+) -> Stats
+    requires { ⌜
+        (n ≤ 16777216) × (found ≡ countOn (unpackedOf (now marks) n) n) × (6 * n ≤ length (now part)) × (wordsFor n ≤ length (now marks))
+        × Between (unpackedOf (now marks) n) n from to
+        ⌝ }
     ensures { λ r. ⌜ Centred (unpackedOf (now (marks .entry)) n) n (now (part .entry)) (now (part .exit)) r ⌝ }
 {
-    let mean = means_over_mask(part, marks, n, found);
+    let mean = means_over_mask(part, marks, n, from, to, found);
     let mut s = Products(0.0, 0.0, 0.0);
-    let mut i = 0;
-    while i < n {
-        let r = bits::next_stretch(marks, i, n);
+    let mut i = from;
+    while i < to {
+        let r = bits::next_stretch(marks, i, to);
         s = centred_stretch(part, n, r.from, r.to, mean, s);
         i = r.to;
     }

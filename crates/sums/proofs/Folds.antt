@@ -1,6 +1,6 @@
 -- The sums over the marked places as folds: start, turn and end of each. A turn goes through a stretch of marked places, which are read from the part; the
 -- definitions read the images. Assumes nothing.
-use Prim.Native.Nat.{ℕ, _+_, _-_, _*_, _<_}
+use Prim.Native.Nat.{ℕ, _+_, _-_, _*_, _≤_, _<_}
 use mathlib.Core.Path.{_≡_, refl, sym, ap, ap₂, _∙_}
 use mathlib.Core.List.{List}
 use native.Mathlib.Omega.{arith}
@@ -9,7 +9,6 @@ use lib.Ieee.{Float, nan, binary32}
 use Rattle.lists.specs.Lists.{image}
 use Rattle.lists.specs.Marked.{overMarked, overRange}
 use Rattle.lists.proofs.Grow.{getD-tab}
-use Rattle.lists.proofs.Fold.{over-none}
 use Rattle.lists.proofs.Images.{getD-place}
 use Rattle.floats.specs.F32.{_⊖_, _⊗_, 0f}
 use Rattle.floats.proofs.Sums.{sum-agree}
@@ -19,6 +18,8 @@ use Rattle.bits.specs.Words.{unpackedOf}
 use Rattle.bits.specs.Stretches.{StretchOf}
 use Rattle.bits.specs.declared.Stretch.{Stretch}
 use Rattle.bits.proofs.Stretches.{stretch-turn}
+use Rattle.rows.specs.Between.{Between, FoldBetween}
+use Rattle.rows.proofs.Between.{fold-between}
 use Rattle.stats.specs.Stats.{productOf}
 use Rattle.stats.proofs.Turns.{product-part}
 use Rattle.inverse.specs.declared.Vector3.{Vector3}
@@ -65,15 +66,20 @@ module _ (ws : List ℕ) (n : ℕ) (part : List Float) where
     pub projTo : ℕ → Vector3
     projTo i = overMarked (on ms) add-proj (0f, 0f, 0f) i
 
-    pub proj-none : _≡_ {A = Vector3} (0f, 0f, 0f) (projTo 0)
-    unfolding projTo
-    proj-none = sym (over-none (on ms) add-proj (0f, 0f, 0f))
+    module _ (from to : ℕ) (o : Between ms n from to) where
+      pub proj-none : _≡_ {A = Vector3} (0f, 0f, 0f) (projTo from)
+      unfolding projTo FoldBetween
+      proj-none = fold-between Vector3 ms n from to o add-proj (0f, 0f, 0f) .0
 
-    pub proj-stretch : (v : ℕ → Float) → ((k : ℕ) → k < n → v k ≡ getD xs k nan) → (i : ℕ) (r : Stretch) → StretchOf ws i n r → (s t : Vector3) → s ≡ projTo i →
+      pub proj-all : projTo to ≡ projTo n
+      unfolding projTo FoldBetween
+      proj-all = fold-between Vector3 ms n from to o add-proj (0f, 0f, 0f) .1
+
+    pub proj-stretch : (v : ℕ → Float) → ((k : ℕ) → k < n → v k ≡ getD xs k nan) → (e i : ℕ) (r : Stretch) → e ≤ n → StretchOf ws i e r → (s t : Vector3) → s ≡ projTo i →
         t ≡ overRange (λ s k. scaledMore s (jAt part n k) (v k)) s (r .from) (r .to - r .from) → t ≡ projTo (r .to)
     unfolding projTo
-    proj-stretch v same i r o s t e f =
-        f ∙ stretch-turn ws n n i r (omega arith) o add-proj (λ s k. scaledMore s (jAt part n k) (v k)) (0f, 0f, 0f) s e (λ u k h. ap₂ (scaledMore u) (j-is k h) (same k h))
+    proj-stretch v same e i r within o s t q f =
+        f ∙ stretch-turn ws n e i r within o add-proj (λ s k. scaledMore s (jAt part n k) (v k)) (0f, 0f, 0f) s q (λ u k h. ap₂ (scaledMore u) (j-is k h) (same k h))
 
     pub proj-end : (s : Vector3) → s ≡ projTo n → s ≡ projOf ms n j0 j1 j2 xs
     unfolding projTo projOf
@@ -93,15 +99,20 @@ module _ (ws : List ℕ) (n : ℕ) (part : List Float) where
   pub upperTo : ℕ → Upper
   upperTo i = overMarked (on ms) add-upper zero-upper i
 
-  pub upper-none : zero-upper ≡ upperTo 0
-  unfolding upperTo
-  upper-none = sym (over-none (on ms) add-upper zero-upper)
+  module _ (from to : ℕ) (o : Between ms n from to) where
+    pub upper-none : zero-upper ≡ upperTo from
+    unfolding upperTo FoldBetween
+    upper-none = fold-between Upper ms n from to o add-upper zero-upper .0
 
-  pub upper-stretch : (i : ℕ) (r : Stretch) → StretchOf ws i n r → (s t : Upper) → s ≡ upperTo i →
+    pub upper-all : upperTo to ≡ upperTo n
+    unfolding upperTo FoldBetween
+    upper-all = fold-between Upper ms n from to o add-upper zero-upper .1
+
+  pub upper-stretch : (e i : ℕ) (r : Stretch) → e ≤ n → StretchOf ws i e r → (s t : Upper) → s ≡ upperTo i →
       t ≡ overRange (λ s k. squaresMore s (jAt part n k)) s (r .from) (r .to - r .from) → t ≡ upperTo (r .to)
   unfolding upperTo
-  upper-stretch i r o s t e f =
-      f ∙ stretch-turn ws n n i r (omega arith) o add-upper (λ s k. squaresMore s (jAt part n k)) zero-upper s e (λ u k h. ap (squaresMore u) (j-is k h))
+  upper-stretch e i r within o s t q f =
+      f ∙ stretch-turn ws n e i r within o add-upper (λ s k. squaresMore s (jAt part n k)) zero-upper s q (λ u k h. ap (squaresMore u) (j-is k h))
 
   abbrev mirrored : Upper → Matrix3
   mirrored s = record {

@@ -1,19 +1,20 @@
 // The sums of the second half of a pass: j0, and what is summed over the marked pixels.
 //
 // It is lent six images one after another: 0 and 1 the warped gradients, 3 and 4 the centred template and image; it leaves j0 in
-// image 5. Image 2 is not looked at. The sums keep the order of the pixels and go by stretches of marked ones, in which no pixel is tested;
-// h is symmetric, so six of its nine sums are worked out.
+// image 5, in the rows that hold a mark. Image 2 is not looked at. The sums keep the order of the pixels, walk the pixels that all marks lie
+// between, and go by stretches of marked ones, in which no pixel is tested; h is symmetric, so six of its nine sums are worked out.
 use inverse::Matrix3;
 use inverse::Vector3;
 ghost use mathlib.Core.Path.{_≡_};
 ghost use Prim.Native.Nat.{_+_, _-_, _*_, _≤_, _<_};
 ghost use lib.Ieee.{nan, neg};
 ghost use lib.ListN.{length, getD};
-ghost use Rattle.lists.specs.Lists.{tab, put, image, setImage};
+ghost use Rattle.lists.specs.Lists.{tab, put, image};
 ghost use Rattle.lists.specs.Marked.{overRange, wordsFor};
 ghost use Rattle.floats.specs.Bound.{Within};
 ghost use Rattle.floats.specs.F32.{_⊕_, _⊖_, _⊗_, f32, 0f};
 ghost use Rattle.bits.specs.Words.{unpackedOf};
+ghost use Rattle.rows.specs.Between.{Between, rowsIn};
 ghost use Rattle.sums.specs.Steps.{jAt, scaledMore, squaresMore};
 ghost use Rattle.sums.specs.Sums.{steepOf, projOf, hessianOf, errorOf};
 
@@ -58,18 +59,19 @@ fn steep_row(part: &mut [f32], n: usize, row: usize, w: usize, ct: f32, st: f32,
 }
 
 // j0 = gxw * hat_x + gyw * hat_y, with hat_x = -(x * st) - (y * ct) and hat_y = (x * ct) - (y * st).
-pub fn steep(part: &mut [f32], w: usize, h: usize, theta: f32)
-    requires { ⌜ (w ≤ 4096) × (h ≤ 4096) × (6 * (w * h) ≤ length (now part)) × Within theta 2 1 ⌝ }
+// In the rows from `first` to `last`; the others stay.
+pub fn steep(part: &mut [f32], w: usize, h: usize, first: usize, last: usize, theta: f32)
+    requires { ⌜ (w ≤ 4096) × (h ≤ 4096) × (first ≤ last) × (last < h) × (6 * (w * h) ≤ length (now part)) × Within theta 2 1 ⌝ }
     ensures { λ _. ⌜
-        now (part .exit) ≡ setImage (w * h) 5
-        (steepOf w h theta (image (w * h) 0 (now (part .entry))) (image (w * h) 1 (now (part .entry)))) (now (part .entry))
+        now (part .exit) ≡ put (now (part .entry)) (5 * (w * h) + first * w)
+        (rowsIn first last w (steepOf w h theta (image (w * h) 0 (now (part .entry))) (image (w * h) 1 (now (part .entry)))))
         ⌝ }
 {
     let n = w * h;
     let ct = series::cos(theta);
     let st = series::sin(theta);
-    let mut y = 0;
-    while y < h {
+    let mut y = first;
+    while y <= last {
         let yf = numbers::to_f32_short(y);
         steep_row(part, n, y * w, w, ct, st, yf * ct, yf * st);
         y += 1;
@@ -180,9 +182,9 @@ fn nothing() -> Twelve
     }
 }
 
-// h, image_proj and template_proj.
-pub fn project(part: &[f32], marks: &[u64], n: usize) -> Sums
-    requires { ⌜ (n ≤ 16777216) × (6 * n ≤ length (now part)) × (wordsFor n ≤ length (now marks)) ⌝ }
+// h, image_proj and template_proj. All marks lie from the pixel `from` on, before `to`.
+pub fn project(part: &[f32], marks: &[u64], n: usize, from: usize, to: usize) -> Sums
+    requires { ⌜ (n ≤ 16777216) × (6 * n ≤ length (now part)) × (wordsFor n ≤ length (now marks)) × Between (unpackedOf (now marks) n) n from to ⌝ }
     ensures { λ r. ⌜
         (let ms = unpackedOf (now (marks .entry)) n in let xs = now (part .entry) in
         (r .h ≡ hessianOf ms n (image n 5 xs) (image n 0 xs) (image n 1 xs))
@@ -191,9 +193,9 @@ pub fn project(part: &[f32], marks: &[u64], n: usize) -> Sums
         ⌝ }
 {
     let mut sums = nothing();
-    let mut i = 0;
-    while i < n {
-        let r = bits::next_stretch(marks, i, n);
+    let mut i = from;
+    while i < to {
+        let r = bits::next_stretch(marks, i, to);
         sums = project_stretch(part, n, r.from, r.to, sums);
         i = r.to;
     }
@@ -233,18 +235,18 @@ fn errors_stretch(
     ep
 }
 
-// error_proj: the sums of j with e = lambda * template_zm - image_zm.
-pub fn errors(part: &[f32], marks: &[u64], n: usize, lambda: f32) -> Vector3
-    requires { ⌜ (n ≤ 16777216) × (6 * n ≤ length (now part)) × (wordsFor n ≤ length (now marks)) ⌝ }
+// error_proj: the sums of j with e = lambda * template_zm - image_zm. All marks lie from the pixel `from` on, before `to`.
+pub fn errors(part: &[f32], marks: &[u64], n: usize, from: usize, to: usize, lambda: f32) -> Vector3
+    requires { ⌜ (n ≤ 16777216) × (6 * n ≤ length (now part)) × (wordsFor n ≤ length (now marks)) × Between (unpackedOf (now marks) n) n from to ⌝ }
     ensures { λ r. ⌜
         (let ms = unpackedOf (now (marks .entry)) n in let xs = now (part .entry) in
         r ≡ projOf ms n (image n 5 xs) (image n 0 xs) (image n 1 xs) (errorOf n lambda (image n 3 xs) (image n 4 xs)))
         ⌝ }
 {
     let mut ep = Vector3(0.0, 0.0, 0.0);
-    let mut i = 0;
-    while i < n {
-        let r = bits::next_stretch(marks, i, n);
+    let mut i = from;
+    while i < to {
+        let r = bits::next_stretch(marks, i, to);
         ep = errors_stretch(part, n, r.from, r.to, lambda, ep);
         i = r.to;
     }

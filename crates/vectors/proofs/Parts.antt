@@ -3,6 +3,7 @@ use Prim.Native.Nat.{ℕ, _+_, _*_, _≤_, _<_}
 use mathlib.Core.Bool.{Bool, true, not, _&&_}
 use mathlib.Core.Path.{_≡_, sym, ap, ap₂, _∙_}
 use mathlib.Core.List.{List, _++_}
+use native.Mathlib.Nat.{mul-comm}
 use native.Mathlib.Omega.{arith}
 use lib.Dec.{leb, eqb}
 use lib.ListN.{length, take, drop, getD, length-take, length-drop}
@@ -19,9 +20,13 @@ use Rattle.bits.proofs.Equal.{bit-is-mark, ones-are-count, bytes-back}
 use Rattle.inverse.specs.Inverse.{inverseOf}
 use Rattle.inverse.specs.declared.Matrix3.{Matrix3}
 use Rattle.inverse.specs.declared.Inverse.{Inverse}
+use Rattle.rows.specs.Rows.{markedRowsOf}
+use Rattle.rows.specs.declared.MarkedRows.{MarkedRows}
+use Rattle.rows.proofs.Turns.{rows-agree}
 use Rattle.pose.specs.declared.Map.{Map}
 use Rattle.places.specs.Point.{marksOf}
 use Rattle.warp.specs.Warp.{warpOf, Warped}
+use Rattle.warp.specs.declared.Found.{Found}
 use Rattle.stats.specs.Stats.{centredOf, statsOf, AgreeAt, Centred}
 use Rattle.stats.specs.declared.Stats.{Stats}
 use Rattle.words.specs.Words.{storedAt, bytesAt, floatsAt, floatsAgree, bytesAgree}
@@ -29,7 +34,7 @@ use Rattle.vectors.specs.Shapes.{Fitting}
 use Rattle.places.proofs.Sizes.{length-marks, mark-few}
 use Rattle.warp.proofs.Sizes.{length-warp}
 use Rattle.stats.proofs.Sizes.{length-centred}
-use Rattle.vectors.specs.Passes.{mapAt, warpAgrees, imageAt, templateAt, normsOf, markedAgree, statsAgree, matrixAt, inverseTold, inverseAgrees}
+use Rattle.vectors.specs.Passes.{mapAt, warpAgrees, imageAt, templateAt, normsOf, markedAgree, statsAgree, rowsTold, rowsAgree, matrixAt, inverseTold, inverseAgrees}
 use Rattle.vectors.specs.declared.shapes.Shape.{Shape}
 use Rattle.vectors.proofs.Tests.{and-passed}
 use Rattle.vectors.proofs.Runs.{length-floats, image-floats, three-images}
@@ -61,9 +66,9 @@ module _ (n : ℕ) (ys a b c : List Float) (room : 6 * n ≤ length ys) (a-long 
 
 -- w, h, the map, three images: the warped ones follow, then marks, which come back from their words as bytes, then their count
 pub warp-told : (words : List ℕ) {s : Shape} (f : Fitting (storedAt words 1) (storedAt words 2) s) → s .ok ≡ true →
-    (map : Map) (xs ys zs : List Float) (ws vs ms ns : List ℕ) (found : ℕ) → 6 * s .n ≤ length xs → wordsFor (s .n) ≤ length ws → ys ≡ put xs 0 (floatsAt words 9 (3 * s .n)) → map ≡ mapAt words 3 →
+    (map : Map) (xs ys zs : List Float) (ws vs ms ns : List ℕ) (found : Found) → 6 * s .n ≤ length xs → wordsFor (s .n) ≤ length ws → ys ≡ put xs 0 (floatsAt words 9 (3 * s .n)) → map ≡ mapAt words 3 →
     Warped map (s .w) (s .h) ys ws zs vs found → ns ≡ put ms 0 (unpackedOf vs (s .n)) →
-    (floatsAgree words (9 + 3 * s .n) (take (3 * s .n) (drop (3 * s .n) zs)) && bytesAgree words (9 + 6 * s .n) (take (s .n) ns) && eqb found (storedAt words (9 + 7 * s .n))) ≡ warpAgrees words
+    (floatsAgree words (9 + 3 * s .n) (take (3 * s .n) (drop (3 * s .n) zs)) && bytesAgree words (9 + 6 * s .n) (take (s .n) ns) && eqb (found .count) (storedAt words (9 + 7 * s .n))) ≡ warpAgrees words
 unfolding warpAgrees BytesBack
 warp-told words {s} f ok map xs ys zs ws vs ms ns found room held e m warped told =
     let n = s .n in
@@ -93,9 +98,9 @@ agreedAt words n =
     && markedAgree ms words (2 + 4 * n) (imageAt words n)
     && floatsAgree words (2 + 5 * n) (normsOf (statsOf ms n (templateAt words n) (imageAt words n)))
 
--- the stored marks, and the words that they were packed into
-module _ (words : List ℕ) (n : ℕ) (few : n ≤ 1024) (ms os ws : List ℕ) (m : ms ≡ bytesAt words 2 1024) (held : wordsFor n ≤ length os) (w : ws ≡ put os 0 (wordsOf ms n)) where
-  stored-same : (i : ℕ) → i < n → on ms i ≡ on (bytesAt words 2 n) i
+-- the marks stored from the word `at` on, and the words that they were packed into
+module _ (words : List ℕ) (at n : ℕ) (few : n ≤ 1024) (ms os ws : List ℕ) (m : ms ≡ bytesAt words at 1024) (held : wordsFor n ≤ length os) (w : ws ≡ put os 0 (wordsOf ms n)) where
+  stored-same : (i : ℕ) → i < n → on ms i ≡ on (bytesAt words at n) i
   unfolding bytesAt
   stored-same i h = ap (λ (l : List ℕ). on l i) m ∙ ap (λ (b : ℕ). not (eqb b 0)) (getD-tab 1024 i _ 0 (omega arith) ∙ sym (getD-tab n i _ 0 h))
 
@@ -103,12 +108,36 @@ module _ (words : List ℕ) (n : ℕ) (few : n ≤ 1024) (ms os ws : List ℕ) (
   unfolding BitIsMark
   packed-same i h = ap (λ (l : List ℕ). on (unpackedOf l n) i) w ∙ bit-is-mark ms os n held i h
 
-  both-same : (i : ℕ) → i < n → on (unpackedOf ws n) i ≡ on (bytesAt words 2 n) i
+  both-same : (i : ℕ) → i < n → on (unpackedOf ws n) i ≡ on (bytesAt words at n) i
   both-same i h = packed-same i h ∙ stored-same i h
+
+-- ---- w, h, marks: the rows that hold one follow
+pub rows-told : (words : List ℕ) {s : Shape} (f : Fitting (storedAt words 1) (storedAt words 2) s) → s .ok ≡ true → (ms os ws : List ℕ) → ms ≡ bytesAt words 3 1024 → wordsFor (s .n) ≤ length os →
+    ws ≡ put os 0 (wordsOf ms (s .n)) → (q : MarkedRows) → q ≡ markedRowsOf (unpackedOf ws (s .w * s .h)) (s .w) (s .h) → rowsTold words (3 + s .n) q ≡ rowsAgree words
+unfolding rowsAgree
+rows-told words {s} f ok ms os ws m held w q e =
+    let p = f .pixels in
+    let same = both-same words 3 (s .n) (f .few) ms os ws m held w in
+    let rows : q ≡ markedRowsOf (bytesAt words 3 (s .n)) (s .w) (s .h) =
+    e ∙ ap (λ (n : ℕ). markedRowsOf (unpackedOf ws n) (s .w) (s .h)) (sym p) ∙ rows-agree (unpackedOf ws (s .n)) (s .w) (bytesAt words 3 (s .n)) (s .h) (λ i l. same i (omega (arith, p, mul-comm (s .h) (s .w)))) in
+    let wide = f .w-is ok in
+    let high = f .h-is ok in
+    let all = pixels-are f ok in
+    and-passed (shaped f ok) cc
+
+module _ (words : List ℕ) (n : ℕ) (few : n ≤ 1024) (ms os ws : List ℕ) (m : ms ≡ bytesAt words 2 1024) (held : wordsFor n ≤ length os) (w : ws ≡ put os 0 (wordsOf ms n)) where
+  abbrev packed-as : (i : ℕ) → i < n → on (unpackedOf ws n) i ≡ on ms i
+  packed-as = packed-same words 2 n few ms os ws m held w
+
+  abbrev stored-as : (i : ℕ) → i < n → on ms i ≡ on (bytesAt words 2 n) i
+  stored-as = stored-same words 2 n few ms os ws m held w
+
+  abbrev both-as : (i : ℕ) → i < n → on (unpackedOf ws n) i ≡ on (bytesAt words 2 n) i
+  both-as = both-same words 2 n few ms os ws m held w
 
   pub found-told : (found : ℕ) → found ≡ onesOf ws (wordsFor n) → found ≡ countOn (unpackedOf ws n) n
   unfolding OnesAreCount
-  found-told found e = e ∙ ap (λ (l : List ℕ). onesOf l (wordsFor n)) w ∙ ones-are-count ms os n held ∙ sym (count-same (unpackedOf ws n) ms n packed-same)
+  found-told found e = e ∙ ap (λ (l : List ℕ). onesOf l (wordsFor n)) w ∙ ones-are-count ms os n held ∙ sym (count-same (unpackedOf ws n) ms n packed-as)
 
   module _ (xs ys zs us : List Float) (r : Stats) (room : 6 * n ≤ length xs) (e : ys ≡ put xs 0 (floatsAt words (2 + n) n)) (g : zs ≡ put ys (3 * n) (floatsAt words (2 + 2 * n) n))
       (told : Centred (unpackedOf ws n) n zs us r) (long : 6 * n ≤ length us) where
@@ -130,14 +159,14 @@ module _ (words : List ℕ) (n : ℕ) (few : n ≤ 1024) (ms os ws : List ℕ) (
 
     -- what is centred by the words' marks is centred by the stored ones
     centred-is : {l k : List Float} → l ≡ k → centredOf (unpackedOf ws n) n l ≡ centredOf (bytesAt words 2 n) n k
-    centred-is {l} {k} q = centred-same _ _ n both-same l ∙ ap (centredOf (bytesAt words 2 n) n) q
+    centred-is {l} {k} q = centred-same _ _ n both-as l ∙ ap (centredOf (bytesAt words 2 n) n) q
 
     image-told : (from k : ℕ) → k * n + n ≤ length us → (l t : List Float) → l ≡ t → AgreeAt (unpackedOf ws n) n (image n k us) (centredOf (unpackedOf ws n) n l) →
         markedAgree ms words from (image n k us) ≡ markedAgree (bytesAt words 2 n) words from (centredOf (bytesAt words 2 n) n t)
     unfolding image
     image-told from k fit l t q agree =
-        marked-same ms _ n stored-same words from _ _ (simp (length-take, length-drop) (omega arith)) (length-centred _ n t)
-        (λ i h o. agree i h (packed-same i h ∙ o) ∙ ap (λ (z : List Float). getD z i nan) (centred-is q))
+        marked-same ms _ n stored-as words from _ _ (simp (length-take, length-drop) (omega arith)) (length-centred _ n t)
+        (λ i h o. agree i h (packed-as i h ∙ o) ∙ ap (λ (z : List Float). getD z i nan) (centred-is q))
 
     pub stats-told : (markedAgree ms words (2 + 3 * n) (image n 4 us) && markedAgree ms words (2 + 4 * n) (image n 5 us) && floatsAgree words (2 + 5 * n) (normsOf r)) ≡ agreedAt words n
     stats-told =
@@ -146,7 +175,7 @@ module _ (words : List ℕ) (n : ℕ) (few : n ≤ 1024) (ms os ws : List ℕ) (
         let t = centred-is template-is in
         let i = centred-is source-is in
         let got : r ≡ statsOf (bytesAt words 2 n) n (templateAt words n) (imageAt words n) =
-        told .answer ∙ stats-same (unpackedOf ws n) (bytesAt words 2 n) n both-same _ _ ∙ ap₂ (statsOf (bytesAt words 2 n) n) t i in
+        told .answer ∙ stats-same (unpackedOf ws n) (bytesAt words 2 n) n both-as _ _ ∙ ap₂ (statsOf (bytesAt words 2 n) n) t i in
         cc
 
 pub stats-agree : (words : List ℕ) (n : ℕ) → n ≡ storedAt words 1 → (leb n 1024 && agreedAt words n) ≡ statsAgree words

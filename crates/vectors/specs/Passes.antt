@@ -11,6 +11,9 @@ use Rattle.inverse.specs.Inverse.{inverseOf, entriesOf}
 use Rattle.inverse.specs.declared.Matrix3.{Matrix3}
 use Rattle.inverse.specs.declared.Inverse.{Inverse}
 use Rattle.inverse.specs.declared.Inverse.the-variants.{Exists, Missing}
+use Rattle.rows.specs.Rows.{markedRowsOf}
+use Rattle.rows.specs.declared.MarkedRows.{MarkedRows}
+use Rattle.rows.specs.declared.MarkedRows.the-variants.{Bare, Span}
 use Rattle.pose.specs.declared.Map.{Map}
 use Rattle.places.specs.Point.{marksOf}
 use Rattle.warp.specs.Warp.{warpOf}
@@ -83,6 +86,18 @@ statsAgree words =
     && markedAgree ms words (2 + 4 * n) (imageAt words n)
     && floatsAgree words (2 + 5 * n) (normsOf (statsOf ms n (templateAt words n) (imageAt words n))))
 
+-- 1 and the first and the last row that hold a mark, or 0, from the word i on
+abbrev pub rowsTold : List ℕ → ℕ → MarkedRows → Bool
+rowsTold words i Bare = eqb (storedAt words i) 0
+rowsTold words i (Span rows) = eqb (storedAt words i) 1 && (eqb (storedAt words (i + 1)) (rows .first) && eqb (storedAt words (i + 2)) (rows .last))
+
+-- w, h, marks; the rows that hold one
+unfoldable pub rowsAgree : List ℕ → Bool
+rowsAgree words =
+    let w = storedAt words 1 in
+    let h = storedAt words 2 in
+    isShape w h && rowsTold words (3 + w * h) (markedRowsOf (bytesAt words 3 (w * h)) w h)
+
 -- 1 and the inverse's entries, or 0, from the word 10 on
 abbrev pub inverseTold : List ℕ → Inverse → Bool
 inverseTold words Missing = eqb (storedAt words 10) 0
@@ -93,7 +108,7 @@ unfoldable pub inverseAgrees : List ℕ → Bool
 inverseAgrees words = inverseTold words (inverseOf (matrixAt words 1))
 
 abbrev pub passTable : List ℕ → List (ℕ × Bool)
-passTable words = (23, warpAgrees words) ∷ (24, statsAgree words) ∷ (25, inverseAgrees words) ∷ []
+passTable words = (23, warpAgrees words) ∷ (24, statsAgree words) ∷ (25, inverseAgrees words) ∷ (28, rowsAgree words) ∷ []
 
 unfoldable pub passAgrees : ℕ → List ℕ → Bool
 passAgrees kind words = ofKind kind (passTable words)

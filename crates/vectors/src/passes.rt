@@ -1,4 +1,4 @@
-// The parts of a pass: warp, centred statistics, inverse. Images are small enough for local arrays.
+// The parts of a pass: warp, rows that hold a mark, centred statistics, inverse. Images are small enough for local arrays.
 ghost use mathlib.Core.Path.{_≡_};
 ghost use mathlib.Core.Bool.{_&&_};
 ghost use Prim.Native.Nat.{_+_, _*_, _≤_};
@@ -10,10 +10,11 @@ ghost use Rattle.marks.specs.Marks.{on};
 ghost use Rattle.bits.specs.Words.{wordsOf, unpackedOf};
 ghost use Rattle.bits.specs.Packing.{flagOf};
 ghost use Rattle.words.specs.Words.{storedAt, floatsAgree, bytesAgree};
-ghost use Rattle.vectors.specs.Passes.{mapAt, matrixAt, warpAgrees, markedAgree, normsOf, statsAgree, inverseAgrees, passAgrees};
+ghost use Rattle.vectors.specs.Passes.{mapAt, matrixAt, warpAgrees, markedAgree, rowsTold, rowsAgree, normsOf, statsAgree, inverseAgrees, passAgrees};
 use crate::shapes::sides_at;
 use inverse::Inverse;
 use inverse::Matrix3;
+use rows::MarkedRows;
 use words::bytes;
 use words::float;
 use words::floats;
@@ -75,7 +76,7 @@ fn warped(words: &[u64]) -> bool
     floats(words, 9, 3 * n, &mut part, 0);
     let found = warp::warp_three_inverse_map(&mut part, &mut marks, map_at(words, 3), s.w, s.h);
     unpacked(&marks, n, &mut out);
-    told(words, n, &part, &out, found)
+    told(words, n, &part, &out, found.count)
 }
 
 // The flags of the first n marks.
@@ -99,6 +100,35 @@ fn packed(marks: &[u8], n: usize, out: &mut [u64])
     flagged(marks, n, &mut flags);
     zeros::fill_words(out, (n + 63) / 64);
     bits::pack(&flags, out, 0, n);
+}
+
+// Whether these rows are those of the words: 1 and the first and the last, or 0, from the word i on.
+fn rows_told(words: &[u64], i: usize, rows: MarkedRows) -> bool
+    requires { ⌜ i ≤ 8192 ⌝ }
+    ensures { λ r. ⌜ r ≡ rowsTold (now (words .entry)) i rows ⌝ }
+{
+    let MarkedRows::Span(r) = rows else {
+        return word(words, i) == 0;
+    };
+    if word(words, i) != 1 {
+        return false;
+    }
+    word(words, i + 1) == r.first as u64 && word(words, i + 2) == r.last as u64
+}
+
+// w, h, marks; the first and the last row that hold one. What the words of marks held before does not matter.
+fn rows_marked(words: &[u64]) -> bool
+    ensures { λ r. ⌜ r ≡ rowsAgree (now (words .entry)) ⌝ }
+{
+    let s = sides_at(words, 1);
+    if !s.ok {
+        return false;
+    }
+    let mut stored = [0u8; 1024];
+    let mut marks = [0xffff_ffff_ffff_ffffu64; 16];
+    bytes(words, 3, &mut stored);
+    packed(&stored, s.n, &mut marks);
+    rows_told(words, 3 + s.n, rows::marked_rows(&marks, s.w, s.h))
 }
 
 // Whether the n floats from `at` on have, where they are marked, the bit patterns of the words from `from` on.
@@ -151,7 +181,7 @@ fn centred(words: &[u64]) -> bool
     floats(words, 2 + n, n, &mut part, 0);
     floats(words, 2 + 2 * n, n, &mut part, 3 * n);
     let found = bits::count(&marks, (n + 63) / 64);
-    let r = stats::centered_stats_in_place(&mut part, &marks, n, found);
+    let r = stats::centered_stats_in_place(&mut part, &marks, n, 0, n, found);
     told_marked(words, n, &stored, &part, r)
 }
 
@@ -203,6 +233,7 @@ pub fn agrees(kind: u64, words: &[u64]) -> bool
         23 => warped(words),
         24 => centred(words),
         25 => inverted(words),
+        28 => rows_marked(words),
         _ => false,
     }
 }

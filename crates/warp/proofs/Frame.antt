@@ -10,14 +10,17 @@ use Rattle.lists.specs.Lists.{tab, put, image, setImage}
 use Rattle.lists.specs.Marked.{wordsFor}
 use Rattle.lists.proofs.Grow.{grid-tab, tab-ext}
 use Rattle.lists.proofs.Put.{length-put, put-again}
-use Rattle.bits.specs.Words.{wordsOf, onesOf}
+use Rattle.bits.specs.Words.{wordsOf, unpackedOf, onesOf}
 use Rattle.bits.specs.Packing.{wordsTo}
 use Rattle.bits.specs.Equal.{OnesAreCount}
 use Rattle.bits.proofs.Equal.{words-all, length-words, ones-are-count}
+use Rattle.rows.specs.Rows.{markedRowsOf}
 use Rattle.pose.specs.declared.Map.{Map}
 use Rattle.places.specs.Point.{marksOf}
 use Rattle.warp.specs.Warp.{pixelOf, warpOf, Warped}
 use Rattle.warp.specs.Rows.{threeRows, warpedAt, Holding, WarpedThrough}
+use Rattle.warp.specs.declared.Found.{Found}
+use Rattle.warp.proofs.Marks.{front}
 use Rattle.warp.proofs.Beside.{three-none, three-join, three-length, three-sources}
 
 module _ (map : Map) (w h : ℕ) where
@@ -76,10 +79,10 @@ module _ (map : Map) (w h : ℕ) where
       ∙ ap (λ (k : ℕ). tab k (λ i. pixelOf src map w h (i % w) (i / w))) (mul-comm w h)
       ∙ sym (grid-tab w h (pixelOf src map w h))
 
-  pub onward-all : (xs xs′ : List Float) (ws ws₁ ws′ : List ℕ) (r : ℕ) → wordsFor (w * h) ≤ length ws → ws₁ ≡ put ws 0 (wordsTo (marksOf map w h) (w * h) 0) →
-      WarpedThrough map w h 0 (w * h) xs ws₁ xs′ ws′ → r ≡ onesOf ws′ (wordsFor (w * h)) → Warped map w h xs ws xs′ ws′ r
+  pub onward-all : (xs xs′ : List Float) (ws ws₁ ws′ : List ℕ) (r : Found) → wordsFor (w * h) ≤ length ws → ws₁ ≡ put ws 0 (wordsTo (marksOf map w h) (w * h) 0) →
+      WarpedThrough map w h 0 (w * h) xs ws₁ xs′ ws′ → r .count ≡ onesOf ws′ (wordsFor (w * h)) → r .rows ≡ markedRowsOf (unpackedOf ws′ (w * h)) w h → Warped map w h xs ws xs′ ws′ r
   unfolding setImage OnesAreCount
-  onward-all xs xs′ ws ws₁ ws′ r room cleared o e =
+  onward-all xs xs′ ws ws₁ ws′ r room cleared o e f =
       let n = w * h in
       let ms = marksOf map w h in
       let len : (q : ℕ) → length (wordsTo ms n q) ≡ wordsFor n = length-words ms n in
@@ -93,4 +96,5 @@ module _ (map : Map) (w h : ℕ) where
         images = o .images ∙ rw (whole (image n 0 xs), whole (image n 1 xs), whole (image n 2 xs), add-zero (3 * n), add-zero (4 * n), add-zero (5 * n));
         marked = all;
         counted = e ∙ ap (λ (z : List ℕ). onesOf z (wordsFor n)) all ∙ ones-are-count ms ws n room;
+        rows = let told = front map w h ws ws′ room all in cc;
       }

@@ -5,3 +5,4 @@ pub mod Pieces
 pub mod Frame
 pub mod Sizes
 pub mod Bounds
+pub mod Marks

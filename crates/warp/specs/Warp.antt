@@ -10,7 +10,9 @@ use Rattle.marks.specs.Marks.{countOn}
 use Rattle.bits.specs.Words.{wordsOf}
 use Rattle.floats.specs.F32.{_⊕_, _⊖_, _⊗_, f32, 0f, 1f}
 use Rattle.pose.specs.declared.Map.{Map}
+use Rattle.rows.specs.Rows.{markedRowsOf}
 use Rattle.places.specs.Point.{sxOf, syOf, markedAt, marksOf, indexOf}
+use Rattle.warp.specs.declared.Found.{Found}
 
 -- p00 * w00 + p01 * w01 + p10 * w10 + p11 * w11, with w00 = (1.0 - wx) * (1.0 - wy), w01 = wx * (1.0 - wy), w10 = (1.0 - wx) * wy, w11 = wx * wy
 unfoldable pub fourOf : Float → Float → Float → Float → Float → Float → Float
@@ -32,8 +34,9 @@ pixelOf src map w h x y = pick (markedAt map w h x y) (sampleOf src w (sxOf map 
 unfoldable pub warpOf : List Float → Map → ℕ → ℕ → List Float
 warpOf src map w h = grid w h (pixelOf src map w h)
 
--- the part and the words of the marks afterwards, and the count
-pub record Warped (map : Map) (w h : ℕ) (xs : List Float) (ws : List ℕ) (xs′ : List Float) (ws′ : List ℕ) (r : ℕ) : Type 0 where
+-- the part and the words of the marks afterwards; the count of the marks, and the rows that hold one
+pub record Warped (map : Map) (w h : ℕ) (xs : List Float) (ws : List ℕ) (xs′ : List Float) (ws′ : List ℕ) (r : Found) : Type 0 where
   pub images : let n = w * h in xs′ ≡ setImage n 5 (warpOf (image n 2 xs) map w h) (setImage n 4 (warpOf (image n 1 xs) map w h) (setImage n 3 (warpOf (image n 0 xs) map w h) xs))
   pub marked : ws′ ≡ put ws 0 (wordsOf (marksOf map w h) (w * h))
-  pub counted : r ≡ countOn (marksOf map w h) (w * h)
+  pub counted : r .count ≡ countOn (marksOf map w h) (w * h)
+  pub rows : r .rows ≡ markedRowsOf (marksOf map w h) w h

@@ -1,4 +1,4 @@
-// warp_three_inverse_map: three images warped by a map inside one lent part, with marks and their count.
+// warp_three_inverse_map: three images warped by a map inside one lent part, with marks, their count and the rows that hold one.
 //
 // A pixel is marked exactly when its computed point lies inside (crate places). Unmarked places hold +0 in all three answers. The four
 // source pixels of a marked pixel are proved to lie inside: there is no clamp. A row is worked out in pieces of at most 256 pixels: first
@@ -14,6 +14,12 @@ ghost use Rattle.floats.specs.F32.{0f};
 ghost use Rattle.bits.specs.Words.{unpackedOf};
 ghost use Rattle.warp.specs.Warp.{Warped};
 ghost use Rattle.warp.specs.Rows.{fourAt, ThreeOf, threeRows, placedOf, readOf, Reach, Holding, WarpedThrough};
+
+// What the warp has marked: how many pixels, and the first and the last row that hold one.
+pub struct Found {
+    pub count: usize,
+    pub rows: rows::MarkedRows,
+}
 
 // A pixel of the three warped images.
 struct Three(f32, f32, f32);
@@ -198,14 +204,14 @@ fn warp_row(
     }
 }
 
-// The part's images 0 to 2 are warped into its images 3 to 5, and the first w * h marks are set. Answers how many are marked.
+// The part's images 0 to 2 are warped into its images 3 to 5, and the first w * h marks are set. Answers how many are marked, and in which rows.
 pub fn warp_three_inverse_map(
     part: &mut [f32],
     marks: &mut [u64],
     map: pose::Map,
     w: usize,
     h: usize,
-) -> usize
+) -> Found
     requires { ⌜ InRange w h × (6 * (w * h) ≤ length (now part)) × (wordsFor (w * h) ≤ length (now marks)) ⌝ }
     ensures { λ r. ⌜ Warped map w h (now (part .entry)) (now (marks .entry)) (now (part .exit)) (now (marks .exit)) r ⌝ }
 {
@@ -231,5 +237,7 @@ pub fn warp_three_inverse_map(
         );
         y += 1;
     }
-    bits::count(marks, words)
+    let count = bits::count(marks, words);
+    let rows = rows::marked_rows(marks, w, h);
+    Found { count, rows }
 }

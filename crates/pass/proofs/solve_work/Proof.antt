@@ -38,7 +38,7 @@ returns c =
     let a = g .args in
     let q = z .solve .ensures in
     let f = g .pre .1 .images in (
-      steep-back (unpackedOf (now (a .marks)) (a .w * a .h)) (a .w) (a .h) (a .at) (a .s) (a .rho) (now (a .work)) f _ (q .0),
+      steep-back (unpackedOf (now (a .marks)) (a .w * a .h)) (a .w) (a .h) (a .at) (a .s) (a .rho) (now (a .work)) f _ (z .solve .kept .0) (q .0),
       solve-back (unpackedOf (now (a .marks)) (a .w * a .h)) (a .w) (a .h) (a .at) (a .s) (a .rho) (now (a .work)) f _ (q .1),
     )
 

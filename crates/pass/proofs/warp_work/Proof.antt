@@ -38,7 +38,7 @@ returns c =
     let g = z .before .before .before .before .before in
     let a = g .args in
     let q = z .warp-three-inverse-map .ensures in
-    (warp-back (a .map) (a .w) (a .h) (now (a .work)) (g .pre .1 .images) _ (q .images), (q .marked, q .counted))
+    (warp-back (a .map) (a .w) (a .h) (now (a .work)) (g .pre .1 .images) _ (q .images), (q .marked, (q .counted, q .rows)))
 
 pub warp-work-spec : {M : Type 1} → statement M
 warp-work-spec =

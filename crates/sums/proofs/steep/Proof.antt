@@ -1,20 +1,21 @@
--- `sums::steep` meets its contract. The loop's invariant: the first y rows stand in image 5, and nothing else has changed. Assumes nothing.
+-- `sums::steep` meets its contract. The loop's invariant: the rows from `first` on, before y, stand in image 5, and nothing else has changed. Assumes nothing.
 use Prim.Native.Nat.{_+_, _-_, _*_, _≤_}
 use mathlib.Core.Path.{_≡_, refl}
 use native.Mathlib.Omega.{arith}
 use borrow.Author.Needs.{needs}
 use lib.ListN.{length}
 use Rattle.lists.specs.Lists.{grid, put}
-use Rattle.lists.proofs.Fill.{rows-none, row-in}
-use Rattle.sums.proofs.Rows.{steep-rule, row-more, steep-end}
+use Rattle.lists.proofs.Fill.{row-in}
+use Rattle.sums.proofs.Rows.{rows-rule, row-none, row-more, steep-end}
 use Rattle.sums.proofs.steep.Statement.{statement}
 use Rattle.sums.proofs.steep.Tie as tie
 
 abbrev Inv-loop : tie.InvT-loop
-Inv-loop part₀ w h theta n ct st y₀ part y = (y ≤ h) × (length part ≡ length part₀) × (part ≡ put part₀ (5 * n) (grid w y (steep-rule part₀ n w ct st)))
+Inv-loop part₀ w h first last theta n ct st y₀ part y =
+    (first ≤ y) × (y ≤ last + 1) × (length part ≡ length part₀) × (part ≡ put part₀ (5 * n + first * w) (grid w (y - first) (rows-rule part₀ n w ct st first)))
 
 abbrev μ-loop : tie.MeasureT-loop
-μ-loop part₀ w h theta n ct st y₀ part y = h - y
+μ-loop part₀ w h first last theta n ct st y₀ part y = last + 1 - y
 
 -- a row lies within the image
 row : (c : tie.After-steep-row-arg Inv-loop μ-loop) →
@@ -36,7 +37,7 @@ sin-requires : tie.Need-sin-requires Inv-loop μ-loop
 sin-requires c κs = search needs
 
 loop-holds : tie.Need-loop-holds Inv-loop μ-loop
-loop-holds c = (omega arith, refl, rows-none _ _ _ _)
+loop-holds c = (omega arith, omega arith, refl, row-none _ _ _ _ _ _)
 
 to-f32-short-requires : tie.Need-to-f32-short-requires Inv-loop μ-loop
 to-f32-short-requires c κs = search needs
@@ -60,8 +61,9 @@ loop-again c =
     let l = b .before .before .before in
     let a = l .before .before .before .before .args in (
       omega arith,
+      omega arith,
       omega (arith, d .steep-row .kept .0),
-      row-more (a .part .now) (a .w * a .h) (a .w) _ _ (l .loop .y) (row b, omega arith) (l .loop .part) _ (l .loop .inv .2) _ (b .before .to-f32-short .ensures) (d .steep-row .ensures),
+      row-more (a .part .now) (a .w * a .h) (a .w) _ _ (a .first) (l .loop .y) (l .loop .inv .0) (row b, omega arith) (l .loop .part) _ (l .loop .inv .3) _ (b .before .to-f32-short .ensures) (d .steep-row .ensures),
     )
 
 same-length : tie.Need-same-length Inv-loop μ-loop
@@ -72,8 +74,8 @@ returns c =
     let l = c .before in
     let s = l .before in
     let a = s .before .before .before .args in
-    let e : l .loop .y ≡ a .h = omega arith in
-    steep-end (a .part .now) _ _ _ _ _ _ (s .before .cos .ensures) (s .sin .ensures) (l .loop .part) (rw e at (l .loop .inv .2))
+    let e : l .loop .y ≡ a .last + 1 = omega arith in
+    steep-end (a .part .now) _ _ _ _ (a .first) (a .last) (a .h) (omega arith) (omega arith) _ (s .before .cos .ensures) (s .sin .ensures) (l .loop .part) (rw e at (l .loop .inv .3))
 
 pub steep-spec : {M : Type 1} → statement M
 steep-spec =

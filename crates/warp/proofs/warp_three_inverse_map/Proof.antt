@@ -111,20 +111,27 @@ count-requires c κs =
     let s = c .before .before .before .before .before .before .before .before .before in
     (omega (arith, l .inv .3, c .before .before .before .before .before .fill-words .kept .0, s .pre .2), omega (arith, mul-le-mul (s .pre .0 .w-most) (s .pre .0 .h-most)))
 
+marked-rows-requires : tie.Need-marked-rows-requires Inv-loop μ-loop
+marked-rows-requires c κs =
+    let l = c .before .before .before .before .loop in
+    let z = c .before .before .before .before .before .before .before in
+    let s = z .before .before .before .before in
+    (s .pre .0, omega (arith, l .inv .3, z .fill-words .kept .0, s .pre .2))
+
 same-length : tie.Need-same-length Inv-loop μ-loop
-same-length c = c .before .before .before .loop .inv .2
+same-length c = c .before .before .before .before .before .loop .inv .2
 
 same-length-2 : tie.Need-same-length-2 Inv-loop μ-loop
-same-length-2 c = c .before .before .before .loop .inv .3 ∙ c .before .before .before .before .before .before .fill-words .kept .0
+same-length-2 c = c .before .before .before .before .before .loop .inv .3 ∙ c .before .before .before .before .before .before .before .before .fill-words .kept .0
 
 returns : tie.Need-returns Inv-loop μ-loop
 returns c =
-    let l = c .before .before .before .loop in
-    let z = c .before .before .before .before .before .before in
-    let s = c .before .before .before .before .before .before .before .before .before .before in
+    let l = c .before .before .before .before .before .loop in
+    let z = c .before .before .before .before .before .before .before .before in
+    let s = z .before .before .before .before in
     let a = s .args in
     let e : l .y ≡ a .h = omega (arith, l .inv .1) in
-    onward-all (a .map) (a .w) (a .h) (now (a .part)) (l .part) (now (a .marks)) _ (l .marks) _ (s .pre .2) (cleared z) (rw (mul-comm (a .w) (a .h)) (rw e at (l .inv .0))) (c .count .ensures ∙ ap (onesOf (l .marks)) (omega arith))
+    onward-all (a .map) (a .w) (a .h) (now (a .part)) (l .part) (now (a .marks)) _ (l .marks) _ (s .pre .2) (cleared z) (rw (mul-comm (a .w) (a .h)) (rw e at (l .inv .0))) (c .before .before .count .ensures ∙ ap (onesOf (l .marks)) (omega arith)) (c .marked-rows .ensures)
 
 pub warp-three-inverse-map-spec : {M : Type 1} → statement M
 warp-three-inverse-map-spec =
@@ -145,6 +152,7 @@ warp-three-inverse-map-spec =
     loop-less
     loop-again
     count-requires
+    marked-rows-requires
     same-length
     same-length-2
     returns)

@@ -18,6 +18,9 @@ centred-requires c κs = search needs
 inverted-requires : tie.Need-inverted-requires
 inverted-requires c κs = search needs
 
+rows-marked-requires : tie.Need-rows-marked-requires
+rows-marked-requires c κs = search needs
+
 returns : tie.Need-returns
 unfolding passAgrees pick
 returns c = c .warped .ensures ∙ sym (ap (λ (k : ℕ). passAgrees k (now (c .before .before .before .args .words))) (c .before .match .keys1))
@@ -31,12 +34,16 @@ unfolding passAgrees pick
 returns-3 c = c .inverted .ensures ∙ sym (ap (λ (k : ℕ). passAgrees k (now (c .before .before .before .args .words))) (c .before .match .keys3))
 
 returns-4 : tie.Need-returns-4
+unfolding passAgrees pick
+returns-4 c = c .rows-marked .ensures ∙ sym (ap (λ (k : ℕ). passAgrees k (now (c .before .before .before .args .words))) (c .before .match .keys4))
+
+returns-5 : tie.Need-returns-5
 unfolding passAgrees
-returns-4 c =
+returns-5 c =
     let r = c .match .rest in
     let kind = c .before .before .args .kind in
     let table = passTable (now (c .before .before .args .words)) in
-    let none : Absent kind table = (r .0 .0 .1, (r .0 .1, (r .1, tt))) in
+    let none : Absent kind table = (r .0 .0 .0 .1, (r .0 .0 .1, (r .0 .1, (r .1, tt)))) in
     kind-none kind table none
 
 pub agrees-spec : {M : Type 1} → statement M
@@ -46,7 +53,9 @@ agrees-spec =
     warped-requires
     centred-requires
     inverted-requires
+    rows-marked-requires
     returns
     returns-2
     returns-3
-    returns-4)
+    returns-4
+    returns-5)

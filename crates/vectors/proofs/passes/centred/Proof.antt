@@ -81,6 +81,7 @@ centered-stats-in-place-requires c κs =
       found-told (now (n .before .before .args .words)) (n .word .result) (t .if1 .left) _ _ _ (b .bytes .ensures) (search needs) (p .packed .ensures) _ (c .before .before .count .ensures),
       search needs,
       search needs,
+      record { order = omega arith; inside = omega arith; before = λ i l. absurd (omega arith); behind = λ i l m. absurd (omega arith) },
     )
 
 slice-aggregate-told-marked : tie.Need-slice-aggregate-told-marked
