@@ -371,7 +371,10 @@ pub const FAR: usize = 9;
 /// a pair whose first pass leads far: up to a turn of 2, and up to twice the sides; mostly one of them alone
 fn far(s: &mut Stream, _: u64) -> Case {
     let (w, h) = (6 + below(s, 40), 6 + below(s, 40));
-    let reach = |s: &mut Stream, side: usize| about(s, pick(s, &[0.5, 1.0, 2.0]) * side as f32) as f64;
+    let reach = |s: &mut Stream, side: usize| {
+        let most = pick(s, &[0.5, 1.0, 2.0]) * side as f32;
+        about(s, most) as f64
+    };
     let turn = about(s, 2.0) as f64;
     let pose = match below(s, 5) {
         0 | 1 => [turn, 0.0, 0.0],
