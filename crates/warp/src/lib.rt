@@ -237,7 +237,7 @@ pub fn warp_three_inverse_map(
         );
         y += 1;
     }
-    let count = bits::count(marks, words);
     let rows = rows::marked_rows(marks, w, h);
+    let count = bits::count(marks, words);
     Found { count, rows }
 }

@@ -105,18 +105,19 @@ loop-again c =
       k .1 .1 .1 .1 .1 .0 ∙ i .7,
     )
 
-count-requires : tie.Need-count-requires Inv-loop μ-loop
-count-requires c κs =
-    let l = c .before .before .loop in
-    let s = c .before .before .before .before .before .before .before .before .before in
-    (omega (arith, l .inv .3, c .before .before .before .before .before .fill-words .kept .0, s .pre .2), omega (arith, mul-le-mul (s .pre .0 .w-most) (s .pre .0 .h-most)))
-
 marked-rows-requires : tie.Need-marked-rows-requires Inv-loop μ-loop
 marked-rows-requires c κs =
+    let l = c .before .before .loop in
+    let z = c .before .before .before .before .before in
+    let s = z .before .before .before .before in
+    (s .pre .0, omega (arith, l .inv .3, z .fill-words .kept .0, s .pre .2))
+
+count-requires : tie.Need-count-requires Inv-loop μ-loop
+count-requires c κs =
     let l = c .before .before .before .before .loop in
     let z = c .before .before .before .before .before .before .before in
     let s = z .before .before .before .before in
-    (s .pre .0, omega (arith, l .inv .3, z .fill-words .kept .0, s .pre .2))
+    (omega (arith, l .inv .3, z .fill-words .kept .0, s .pre .2), omega (arith, mul-le-mul (s .pre .0 .w-most) (s .pre .0 .h-most)))
 
 same-length : tie.Need-same-length Inv-loop μ-loop
 same-length c = c .before .before .before .before .before .loop .inv .2
@@ -131,7 +132,7 @@ returns c =
     let s = z .before .before .before .before in
     let a = s .args in
     let e : l .y ≡ a .h = omega (arith, l .inv .1) in
-    onward-all (a .map) (a .w) (a .h) (now (a .part)) (l .part) (now (a .marks)) _ (l .marks) _ (s .pre .2) (cleared z) (rw (mul-comm (a .w) (a .h)) (rw e at (l .inv .0))) (c .before .before .count .ensures ∙ ap (onesOf (l .marks)) (omega arith)) (c .marked-rows .ensures)
+    onward-all (a .map) (a .w) (a .h) (now (a .part)) (l .part) (now (a .marks)) _ (l .marks) _ (s .pre .2) (cleared z) (rw (mul-comm (a .w) (a .h)) (rw e at (l .inv .0))) (c .count .ensures ∙ ap (onesOf (l .marks)) (omega arith)) (c .before .before .marked-rows .ensures)
 
 pub warp-three-inverse-map-spec : {M : Type 1} → statement M
 warp-three-inverse-map-spec =
@@ -151,8 +152,8 @@ warp-three-inverse-map-spec =
     add-y
     loop-less
     loop-again
-    count-requires
     marked-rows-requires
+    count-requires
     same-length
     same-length-2
     returns)
