@@ -4,14 +4,12 @@
 //!
 //! A round times both, one after the other, with ten passes and with none; a short call is repeated until it lasts some milliseconds. Then come
 //! pairs whose first pass leads to a far pose (tools/vectors/frames.rs), with two passes and with one: what is timed is a pass at that pose.
-//! There are at least ROUNDS rounds (15 where it is left out), and as many as fit a second and a half. What is printed comes from their
-//! medians. Time is the thread's processor time: it goes on in the kernel, as where memory is handed out, and stands while other programs
+//! There are at least ROUNDS rounds (15 where it is left out), and as many as fit a second and a half; at 4096x4096 there are two passes and at
+//! most five rounds, since one takes seconds. What is printed comes from their medians. Time is the thread's processor time: it goes on in the kernel, as where memory is handed out, and stands while other programs
 //! run. That clock is the C library's, for 64-bit Linux. Each call must do all its passes and give number 0, and both sides must give the
 //! same bits.
 
-#[allow(dead_code)]
-#[path = "../oracle/ecc.rs"]
-mod ecc;
+extern crate oracle;
 #[allow(dead_code)]
 #[path = "../vectors/frames.rs"]
 mod frames;
@@ -21,14 +19,16 @@ mod lines;
 #[allow(dead_code)]
 #[path = "../../rust/quayhollow.rs"]
 mod quayhollow;
-#[allow(dead_code)]
-#[path = "../oracle/rules.rs"]
-mod rules;
-use ecc::EccConfig;
+use oracle::ecc::{self, EccConfig};
+use oracle::rules;
 use quayhollow::{Answer, Settings};
 use std::hint::black_box;
 
 const PASSES: usize = 10;
+/// the side from which on there are fewer passes and rounds, with how many of them
+const WIDE: usize = 4096;
+const WIDE_PASSES: usize = 2;
+const WIDE_ROUNDS: usize = 5;
 /// the shortest measurement and the shortest case, in nanoseconds
 const LEAST: f64 = 4e6;
 const LONG: f64 = 1.5e9;
@@ -77,7 +77,7 @@ impl Case {
     fn new(side: usize, filter: usize, edge: usize) -> Case {
         Case {
             side,
-            passes: [PASSES, 0],
+            passes: [if side < WIDE { PASSES } else { WIDE_PASSES }, 0],
             settings: Settings { eps: -1.0, max_iter: PASSES, filter, edge },
             template: frame(side, 0.0, 0.0, 0.0),
             input: frame(side, 0.16 / side as f64, 0.7, -0.4),
@@ -174,9 +174,11 @@ fn median(mut xs: Vec<f64>) -> f64 {
 fn measured(case: &mut Case, rounds: usize) -> [Times; 2] {
     let mut taken = [const { Vec::new() }; 4];
     let [many, few] = case.passes;
+    let rounds = if case.side < WIDE { rounds } else { rounds.min(WIDE_ROUNDS) };
+    let long = if case.side < WIDE { LONG } else { 0.0 };
     let (whole, none) = (repeats(|| case.rust(many)), repeats(|| case.rust(few)));
     let start = now();
-    while taken[0].len() < rounds || now() - start < LONG {
+    while taken[0].len() < rounds || now() - start < long {
         taken[0].push(timed(whole, || case.rust(many)));
         taken[1].push(timed(whole, || case.ours(many)));
         taken[2].push(timed(none, || case.rust(few)));
@@ -196,7 +198,7 @@ fn line(case: &Case, [theirs, ours]: [Times; 2]) -> String {
         format!("{0}x{0}", case.side),
         case.settings.filter,
         edge,
-        three(theirs.passes(), ours.passes(), n * PASSES as f64),
+        three(theirs.passes(), ours.passes(), n * (case.passes[0] - case.passes[1]) as f64),
         three(theirs.none, ours.none, n),
         theirs.whole / ours.whole,
     )
@@ -229,8 +231,9 @@ fn mathematics() -> f64 {
 }
 
 const HEAD: &str = "\
-Document 000 in Rust against the library: one thread, its processor time, both compiled for no processor in particular. The ratio is
-document 000's time over the library's: above 1 the library is faster. Passes: nanoseconds for each pixel and pass, ten passes less none.
+Document 000 in Rust against the library: one thread, its processor time, both compiled for no processor in particular, and document 000 as a
+crate of its own, optimised across its files. The ratio is document 000's time over the library's: above 1 the library is faster. Passes:
+nanoseconds for each pixel and pass, ten passes less none (two at 4096x4096).
 Preparing: nanoseconds for each pixel, a call with max_iter 0. Pixels are counted after resizing; an edge of 350 changes nothing at sides up
 to 350. Memory: document 000 allocates its images in each call, zeroed, and frees them; what the system takes to hand out pages is in its
 times, mostly in preparing, and where a page is first touched by a pass, in the passes. The library works in lent memory that the call before
@@ -241,7 +244,7 @@ fn main() {
     println!("{HEAD}\n");
     println!("{:>24} | passes             | preparing          | call", "");
     println!("{:>9} {:>6} {:>6} | {:>6} {:>6} {:>5} | {:>6} {:>6} {:>5} | ratio", "sides", "filter", "edge", "000", "ours", "ratio", "000", "ours", "ratio");
-    for (side, edges) in [(32, &[0][..]), (128, &[0]), (350, &[0]), (1024, &[0, 350])] {
+    for (side, edges) in [(32, &[0][..]), (128, &[0]), (350, &[0]), (1024, &[0, 350]), (WIDE, &[0])] {
         for &edge in edges {
             for filter in [1, 5] {
                 let mut case = Case::new(side, filter, edge);
@@ -253,6 +256,6 @@ fn main() {
         }
     }
     far(350, rounds);
-    println!("\nEvery call: number 0, all passes, the same bits on both sides. Medians of {rounds} rounds or more.");
+    println!("\nEvery call: number 0, all passes, the same bits on both sides. Medians of {rounds} rounds or more, at {WIDE}x{WIDE} of at most {WIDE_ROUNDS}.");
     println!("The oracle has the rules' sine and cosine in place of the machine's: {:.0} ns a pass.", mathematics());
 }

@@ -15,7 +15,8 @@ use Rattle.resize.specs.Resize.{placeOf, firstOf, tapOf, byteOf, lerpOf, biline
 use Rattle.gradients.specs.Gradients.{gradientX, gradientY}
 use Rattle.pose.specs.Pose.{affineFromThetaTxTy, isPose, identity3, affineMatrix, posedMatrix, matrixOf, unscaledOf}
 use Rattle.places.specs.Point.{sxOf, syOf, inside, markedAt, markOf, marksOf, indexOf}
-use Rattle.warp.specs.Warp.{fourOf, pixelOf, warpOf}
+use Rattle.blends.specs.Blend.{fourOf}
+use Rattle.warp.specs.Warp.{pixelOf, warpOf}
 use Rattle.warp.specs.Warp as warp
 use Rattle.checks.specs.Checks.{sizeOf, roomOf, limitsOf, checkOf}
 use Rattle.blur.specs.Blur.{blurOf}

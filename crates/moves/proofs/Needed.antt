@@ -7,7 +7,8 @@ use Rattle.numbers.specs.Numbers.{floorOf}
 use Rattle.series.specs.Series.{cosOf, sinOf}
 use Rattle.pose.specs.Pose.{affineFromThetaTxTy}
 use Rattle.places.specs.Point.{sxOf, syOf, inside, markedAt, indexOf}
-use Rattle.warp.specs.Warp.{fourOf, sampleOf, pixelOf, warpOf}
+use Rattle.blends.specs.Blend.{fourOf}
+use Rattle.warp.specs.Warp.{sampleOf, pixelOf, warpOf}
 use Rattle.moves.specs.Needed.{InfinityBeside, ZeroBeside}
 
 pub infinity-beside : InfinityBeside

@@ -18,7 +18,8 @@ use Rattle.floats.proofs.Signs.{sub-whole}
 use Rattle.floats.proofs.Zeros.{Zero, Kept, times-one, times-zero, kept-plus}
 use Rattle.numbers.proofs.Cast.{cast-floor}
 use Rattle.places.specs.Point.{indexOf}
-use Rattle.warp.specs.Warp.{fourOf, sampleOf}
+use Rattle.blends.specs.Blend.{fourOf}
+use Rattle.warp.specs.Warp.{sampleOf}
 use Rattle.moves.specs.Moves.{AllFinite}
 
 -- the floor of a whole number as an index is the number

@@ -12,6 +12,8 @@ use lib.IntN.{ℤ}
 use lib.Ieee.{Float, nan, inf, fin, binary32, up, down, sum, add, neg, sub, round, lt, le, fits, ofInt, ofBits, toUnsigned}
 use lib.Ieee.Fits.{down-pos, round-fits}
 use lib.Ieee.Bits.{is-true}
+use Rattle.lists.specs.Marked.{pick}
+use Rattle.lists.proofs.Cases.{pick-true, pick-false}
 use Rattle.floats.specs.F32.{_⊕_, _⊖_, f32, 0f, 1f}
 use Rattle.floats.specs.Bound.{Within, UpTo, AtLeast}
 use Rattle.floats.proofs.Within.{Signed, round-signed, round-within, within-finite, rep-down}
@@ -151,23 +153,27 @@ nearly-is (fin false m e) f u =
     (λ h. let g = off (suc j) (omega arith) (h ∙ ap f32 next) in inr (g, ap (lt x) g ∙ test (suc j) (omega arith) ∙ lt-ltb (n * 1) (suc j * d) (omega arith)))
     (sum-between n d j D low high few)
 
--- ---- THE LAW: by the test, the floor as a whole number
+-- ---- THE LAW: 1 less where the test tells so, the floor as a whole number
 
-pub floor-over : (x : Float) → T (fits binary32 x) → UpTo x 4194304 1 → lt x (nearly x) ≡ true → nearly x ⊖ 1f ≡ f32 (toUnsigned 64 (floorOf x))
-floor-over x f u t = by (nearly-is x f u)
+pub floor-less : (x : Float) → T (fits binary32 x) → UpTo x 4194304 1 → nearly x ⊖ pick (lt x (nearly x)) 1f 0f ≡ f32 (toUnsigned 64 (floorOf x))
+floor-less x f u = by (nearly-is x f u)
   where
-    by : Nearly x (part x) → nearly x ⊖ 1f ≡ f32 (toUnsigned 64 (floorOf x))
-    by (inl p) = absurd (true≢false (sym t ∙ p .1))
+    -- j + k less k
+    less : (j k : ℕ) (v : Float) → j ≤ 4194304 → k ≤ 1 → v ≡ f32 k → f32 (j + k) ⊖ v ≡ f32 j
+    less j k v J K e =
+        let q : j + k - k ≡ j = omega arith in
+        ap (λ (z : Float). f32 (j + k) ⊖ z) e ∙ sub-whole (j + k) k (omega arith) (omega arith) ∙ ap f32 q
+
+    by : Nearly x (part x) → nearly x ⊖ pick (lt x (nearly x)) 1f 0f ≡ f32 (toUnsigned 64 (floorOf x))
+    by (inl p) =
+        let j = part x in
+        let same : j ≡ j + 0 = omega arith in
+        ap₂ _⊖_ (p .0 ∙ ap f32 same) (pick-false (lt x (nearly x)) 1f 0f (p .1))
+        ∙ less j 0 0f (part-le x 4194304 u) (omega arith) (unfold ofBits ofInt round in refl)
+        ∙ ap f32 (sym (index-is x 4194304 (lit≤ tt) f u))
     by (inr p) =
         let j = part x in
-        let few : j ≤ 4194304 = part-le x 4194304 u in
-        let q : suc j - 1 ≡ j = omega arith in
-        let one : 1f ≡ f32 1 = unfold ofBits ofInt round in refl in
-        ap₂ _⊖_ (p .0) one ∙ sub-whole (suc j) 1 (omega arith) (omega arith) ∙ ap f32 (q ∙ sym (index-is x 4194304 (lit≤ tt) f u))
-
-pub floor-under : (x : Float) → T (fits binary32 x) → UpTo x 4194304 1 → lt x (nearly x) ≡ false → nearly x ≡ f32 (toUnsigned 64 (floorOf x))
-floor-under x f u t = by (nearly-is x f u)
-  where
-    by : Nearly x (part x) → nearly x ≡ f32 (toUnsigned 64 (floorOf x))
-    by (inl p) = p .0 ∙ ap f32 (sym (index-is x 4194304 (lit≤ tt) f u))
-    by (inr p) = absurd (true≢false (sym (p .1) ∙ t))
+        let next : suc j ≡ j + 1 = omega arith in
+        ap₂ _⊖_ (p .0 ∙ ap f32 next) (pick-true (lt x (nearly x)) 1f 0f (p .1))
+        ∙ less j 1 1f (part-le x 4194304 u) (omega arith) (unfold ofBits ofInt round in refl)
+        ∙ ap f32 (sym (index-is x 4194304 (lit≤ tt) f u))

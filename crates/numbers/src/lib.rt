@@ -7,7 +7,9 @@ ghost use lib.Ieee as Ieee;
 ghost use lib.Ieee.{binary32};
 ghost use lib.Ieee.Scale.{finite};
 ghost use Rattle.numbers.specs.Numbers.{absOf, floorOf, nearestOf, roundOf};
+ghost use Rattle.lists.specs.Marked.{pick};
 ghost use Rattle.floats.specs.Bound.{UpTo};
+ghost use Rattle.floats.specs.F32.{0f, 1f};
 
 // The smaller.
 pub fn least(a: usize, b: usize) -> usize
@@ -89,17 +91,21 @@ pub fn floor(x: f32) -> f32
     x
 }
 
-// The floor of an x from 0 to 2^22, with no branch to take: 2^23 is added and taken off, where no f32 has a fraction. A zero comes back
-// with no sign.
+// 1 where it holds, else 0.
+fn one_if(holds: bool) -> f32
+    ensures { λ r. ⌜ r ≡ pick holds 1f 0f ⌝ }
+{
+    if holds { 1.0 } else { 0.0 }
+}
+
+// The floor of an x from 0 to 2^22, with no branch to take: 2^23 is added and taken off, where no f32 has a fraction; 1 less where that is
+// too much. A zero comes back with no sign.
 pub fn floor_small(x: f32) -> f32
     requires { ⌜ UpTo x 4194304 1 ⌝ }
     ensures { λ r. ⌜ r ≡ Ieee.ofInt binary32 (pos (Ieee.toUnsigned 64 (floorOf x))) ⌝ }
 {
     let f = (x + 8388608.0) - 8388608.0;
-    if x < f {
-        return f - 1.0;
-    }
-    f
+    f - one_if(x < f)
 }
 
 // The whole number nearest to an x from 0 to 2^23, a half going up.

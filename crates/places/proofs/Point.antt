@@ -1,13 +1,14 @@
 -- One point: the four pixels of one inside lie inside, and where they are. Assumes nothing.
-use mathlib.Core.Path.{_≡_, ap, _∙_, subst₂}
+use mathlib.Core.Path.{_≡_, sym, ap, _∙_, subst₂}
 use mathlib.Core.Bool.{Bool, true, false}
 use Prim.Native.Nat.{ℕ, suc, _+_, _-_, _*_, _^_, _≤_, _<_}
 use native.Mathlib.Nat.{le-trans, mul-le-mul, mul-le-mul-right}
 use native.Mathlib.Omega.{arith}
 use lib.Dec.{T, le→leb, lit<, lit≤}
-use lib.Ieee.{Float, binary32, fits, round, inFloat, inUnsigned, toUnsigned, ofBits}
+use lib.IntN.{pos}
+use lib.Ieee.{Float, binary32, fits, round, inFloat, inSigned, toSigned, toUnsigned, ofBits}
 use lib.Ieee.Fits.{and-l, and-r, add-fits}
-use lib.Ieee.Back.{unsigned-back}
+use lib.Ieee.Back.{unsigned-back, positive-back}
 use Rattle.lists.specs.Marked.{pick}
 use Rattle.lists.proofs.Cases.{pick-true}
 use Rattle.floats.specs.F32.{_⊕_, _⊗_, f32, 0f}
@@ -90,10 +91,14 @@ module _ (map : Map) (w h x y : ℕ) where
       }
 
 -- ---- where a place is, as the code works it out: a whole number below 2 ^ 24 all along, so nothing is rounded
-pub spot-is : (w i j : ℕ) → w ≤ 4096 → i < 4096 → j < 4096 → let v = f32 j ⊗ f32 w ⊕ f32 i in T (inUnsigned binary32 32 v) × (toUnsigned 32 v ≡ j * w + i)
+pub spot-is : (w i j : ℕ) → w ≤ 4096 → i < 4096 → j < 4096 →
+    let v = f32 j ⊗ f32 w ⊕ f32 i in T (inSigned binary32 31 v) × (toSigned 31 v ≡ pos (toUnsigned 32 v)) × (toUnsigned 32 v ≡ j * w + i)
 unfolding inFloat
 spot-is w i j W hi hj =
     let last : j ≤ 4095 = omega arith in
     let few : j * w ≤ 4095 * 4096 = mul-le-mul last W in
     let is : f32 j ⊗ f32 w ⊕ f32 i ≡ f32 (j * w + i) = ap (λ (z : Float). z ⊕ f32 i) (mul-whole j w (omega arith) (omega arith) (omega arith)) ∙ add-whole (j * w) i (omega arith) in
-    rw is (unsigned-back binary32 32 (j * w + i) (le→leb (j * w + i) (2 ^ 24) (omega arith)) (omega arith))
+    let held = le→leb (j * w + i) (2 ^ 24) (omega arith) in
+    let signed = positive-back binary32 31 (j * w + i) held (omega arith) in
+    let unsigned = unsigned-back binary32 32 (j * w + i) held (omega arith) .1 in
+    rw is (signed .0, signed .1 ∙ ap pos (sym unsigned), unsigned)

@@ -6,7 +6,8 @@
 ghost use mathlib.Core.Path.{_≡_};
 ghost use Prim.Native.Nat.{_+_, _*_, _≤_, _<_};
 ghost use lib.Dec.{T};
-ghost use lib.Ieee.{binary32, inUnsigned, toUnsigned};
+ghost use lib.IntN.{pos};
+ghost use lib.Ieee.{binary32, inSigned, toSigned, toUnsigned};
 ghost use Rattle.lists.specs.Marked.{pick};
 ghost use Rattle.lists.specs.Premises.{InRange, Scratch};
 ghost use Rattle.floats.specs.F32.{0f};
@@ -53,12 +54,12 @@ fn or_zero(within: bool, s: f32) -> f32
     if within { s } else { 0.0 }
 }
 
-// A whole number that is an f32, as one that indexes.
+// A whole number that is an f32, as one that indexes. By way of a signed number it is one instruction, and a loop takes several at a time.
 fn index(v: f32) -> u32
-    requires { ⌜ T (inUnsigned binary32 32 v) ⌝ }
+    requires { ⌜ T (inSigned binary32 31 v) × (toSigned 31 v ≡ pos (toUnsigned 32 v)) ⌝ }
     ensures { λ r. ⌜ r ≡ toUnsigned 32 v ⌝ }
 {
-    v as u32
+    v as i32 as u32
 }
 
 // Where a pixel lies in the source, its weights and its flag.

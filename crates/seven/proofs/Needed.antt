@@ -14,7 +14,8 @@ use Rattle.prepare.specs.Prepared.{grayOf, scaledOf, preparedOf}
 use Rattle.checks.specs.Checks.{sizeOf, roomOf, limitsOf, checkOf}
 use Rattle.pose.specs.Pose.{affineFromThetaTxTy}
 use Rattle.places.specs.Point.{sxOf, syOf, inside, markedAt, markOf, marksOf, indexOf}
-use Rattle.warp.specs.Warp.{fourOf, sampleOf, pixelOf, warpOf}
+use Rattle.blends.specs.Blend.{fourOf}
+use Rattle.warp.specs.Warp.{sampleOf, pixelOf, warpOf}
 use Rattle.stats.specs.Stats.{meanOf, centredOf, productOf, statsOf}
 use Rattle.verdict.specs.Verdict.{verdictOf}
 use Rattle.pass.specs.Pass.{onward, weighedOf, passOf}

@@ -24,11 +24,12 @@ use Rattle.stats.specs.Stats.{productOf}
 use Rattle.stats.proofs.Turns.{product-part}
 use Rattle.inverse.specs.declared.Vector3.{Vector3}
 use Rattle.inverse.specs.declared.Matrix3.{Matrix3}
-use Rattle.sums.specs.Steps.{jAt, scaledMore, squaresMore}
+use Rattle.sums.specs.Steps.{jAt, scaledMore}
+use Rattle.sums.specs.Fours.{fourIn, fourMore, quadAt, foursOf, SumsMore}
 use Rattle.sums.specs.Sums.{projOf, hessianOf, errorOf}
-use Rattle.sums.specs.declared.Upper.{Upper}
+use Rattle.sums.specs.declared.Four.{Four}
 
--- a sum of products is the same either way round, so h is symmetric
+-- a sum of products is the same either way round
 product-comm : (ms : List ℕ) (n : ℕ) (xs ys : List Float) → productOf ms n xs ys ≡ productOf ms n ys xs
 unfolding productOf
 product-comm ms n xs ys = sum-agree (on ms) (on ms) _ _ n (λ i l. refl) (λ i l m. times-comm binary32 (getD xs i nan) (getD ys i nan))
@@ -45,6 +46,12 @@ module _ (ws : List ℕ) (n : ℕ) (part : List Float) where
 
   abbrev j2 : List Float
   j2 = image n 1 part
+
+  abbrev tz : List Float
+  tz = image n 3 part
+
+  abbrev iz : List Float
+  iz = image n 4 part
 
   -- j at a pixel, by the images; by places of the part it is the same
   abbrev j-at : ℕ → Vector3
@@ -89,57 +96,95 @@ module _ (ws : List ℕ) (n : ℕ) (part : List Float) where
         let c = product-part ms add-proj (0f, 0f, 0f) n (λ s. s .2) refl j2 xs (λ s i l m. refl) in
         e ∙ λ k. (a k, b k, c k)
 
-  -- ---- the six sums of h
-  abbrev zero-upper : Upper
-  zero-upper = record { m00 = 0f; m01 = 0f; m02 = 0f; m11 = 0f; m12 = 0f; m22 = 0f }
+  -- ---- the sums that stand side by side. A pixel's four numbers, by the images; by places of the part they are the same
+  abbrev quad : ℕ → Four
+  quad i = (getD j0 i nan, getD j1 i nan, getD j2 i nan, getD iz i nan)
 
-  abbrev add-upper : Upper → ℕ → Upper
-  add-upper s k = squaresMore s (j-at k)
+  quad-is : (i : ℕ) → i < n → quadAt part n i ≡ quad i
+  quad-is i h =
+      let j = j-is i h in
+      let z = getD-place n 4 i _ part nan h refl in
+      λ k. (j k .0, j k .1, j k .2, z k)
 
-  pub upperTo : ℕ → Upper
-  upperTo i = overMarked (on ms) add-upper zero-upper i
+  -- ---- four of them, with an image
+  module _ (xs : List Float) where
+    abbrev add-quad : Four → ℕ → Four
+    add-quad s k = fourMore s (quad k) (getD xs k nan)
 
-  module _ (from to : ℕ) (o : Between ms n from to) where
-    pub upper-none : zero-upper ≡ upperTo from
-    unfolding upperTo FoldBetween
-    upper-none = fold-between Upper ms n from to o add-upper zero-upper .0
+    pub foursTo : ℕ → Four
+    foursTo i = overMarked (on ms) add-quad (0f, 0f, 0f, 0f) i
 
-    pub upper-all : upperTo to ≡ upperTo n
-    unfolding upperTo FoldBetween
-    upper-all = fold-between Upper ms n from to o add-upper zero-upper .1
+    module _ (from to : ℕ) (o : Between ms n from to) where
+      to-none : _≡_ {A = Four} (0f, 0f, 0f, 0f) (foursTo from)
+      unfolding foursTo FoldBetween
+      to-none = fold-between Four ms n from to o add-quad (0f, 0f, 0f, 0f) .0
 
-  pub upper-stretch : (e i : ℕ) (r : Stretch) → e ≤ n → StretchOf ws i e r → (s t : Upper) → s ≡ upperTo i →
-      t ≡ overRange (λ s k. squaresMore s (jAt part n k)) s (r .from) (r .to - r .from) → t ≡ upperTo (r .to)
-  unfolding upperTo
-  upper-stretch e i r within o s t q f =
-      f ∙ stretch-turn ws n e i r within o add-upper (λ s k. squaresMore s (jAt part n k)) zero-upper s q (λ u k h. ap (squaresMore u) (j-is k h))
+      to-all : foursTo to ≡ foursTo n
+      unfolding foursTo FoldBetween
+      to-all = fold-between Four ms n from to o add-quad (0f, 0f, 0f, 0f) .1
 
-  abbrev mirrored : Upper → Matrix3
-  mirrored s = record {
-    m00 = s .m00;
-    m01 = s .m01;
-    m02 = s .m02;
-    m10 = s .m01;
-    m11 = s .m11;
-    m12 = s .m12;
-    m20 = s .m02;
-    m21 = s .m12;
-    m22 = s .m22;
+    to-end : foursTo n ≡ (productOf ms n j0 xs, productOf ms n j1 xs, productOf ms n j2 xs, productOf ms n iz xs)
+    unfolding foursTo
+    to-end =
+        let a = product-part ms add-quad (0f, 0f, 0f, 0f) n (λ s. s .0) refl j0 xs (λ s i l m. refl) in
+        let b = product-part ms add-quad (0f, 0f, 0f, 0f) n (λ s. s .1) refl j1 xs (λ s i l m. refl) in
+        let c = product-part ms add-quad (0f, 0f, 0f, 0f) n (λ s. s .2) refl j2 xs (λ s i l m. refl) in
+        let d = product-part ms add-quad (0f, 0f, 0f, 0f) n (λ s. s .3) refl iz xs (λ s i l m. refl) in
+        λ k. (a k, b k, c k, d k)
+
+  -- a stretch of marked pixels, with the image j, which starts at f in the part
+  to-stretch : (j f : ℕ) → ((k : ℕ) → f + k ≡ j * n + k) → (e i : ℕ) (r : Stretch) → e ≤ n → StretchOf ws i e r → (s t : Four) → s ≡ foursTo (image n j part) i →
+      t ≡ foursOf part n f s (r .from) (r .to - r .from) → t ≡ foursTo (image n j part) (r .to)
+  unfolding foursTo foursOf
+  to-stretch j f at e i r within o s t q g =
+      g ∙ stretch-turn ws n e i r within o (add-quad (image n j part)) (λ s k. fourMore s (quadAt part n k) (getD part (f + k) nan)) (0f, 0f, 0f, 0f) s q (λ u k h. ap₂ (fourMore u) (quad-is k h) (getD-place n j k (f + k) part nan h (at k)))
+
+  -- ---- and all sixteen, from q on
+  pub record SumsTo (q : ℕ) (m : List Float) (i : ℕ) : Type 0 where
+    pub to-j0 : fourIn m q ≡ foursTo j0 i
+    pub to-j1 : fourIn m (q + 4) ≡ foursTo j1 i
+    pub to-j2 : fourIn m (q + 8) ≡ foursTo j2 i
+    pub to-t : fourIn m (q + 12) ≡ foursTo tz i
+
+  module _ (q from to : ℕ) (o : Between ms n from to) where
+    pub sums-none : (m : List Float) → ((k : ℕ) → k < q + 16 → getD m k nan ≡ 0f) → SumsTo q m from
+    sums-none m zeros =
+        let none : (xs : List Float) (i : ℕ) → i + 4 ≤ q + 16 → fourIn m i ≡ foursTo xs from = λ xs i h.
+        let a = zeros i (omega arith) in
+        let b = zeros (i + 1) (omega arith) in
+        let c = zeros (i + 2) (omega arith) in
+        let d = zeros (i + 3) (omega arith) in
+        (λ k. (a k, b k, c k, d k)) ∙ to-none xs from to o in
+        record { to-j0 = none j0 q (omega arith); to-j1 = none j1 (q + 4) (omega arith); to-j2 = none j2 (q + 8) (omega arith); to-t = none tz (q + 12) (omega arith) }
+
+    -- the end: what is read from the sixteen places
+    module _ (m : List Float) (so-far : SumsTo q m to) (a b c d : Four) (ea : a ≡ fourIn m q) (eb : b ≡ fourIn m (q + 4)) (ec : c ≡ fourIn m (q + 8)) (ed : d ≡ fourIn m (q + 12)) where
+      abbrev matrix : Matrix3
+      matrix = record { m00 = a .0; m01 = b .0; m02 = c .0; m10 = a .1; m11 = b .1; m12 = c .1; m20 = a .2; m21 = b .2; m22 = c .2 }
+
+      pub sums-end : (matrix ≡ hessianOf ms n j0 j1 j2) × (_≡_ {A = Vector3} (a .3, b .3, c .3) (projOf ms n j0 j1 j2 iz)) × (_≡_ {A = Vector3} (d .0, d .1, d .2) (projOf ms n j0 j1 j2 tz))
+      unfolding hessianOf projOf
+      sums-end =
+          let x = ea ∙ so-far .to-j0 ∙ to-all j0 from to o ∙ to-end j0 in
+          let y = eb ∙ so-far .to-j1 ∙ to-all j1 from to o ∙ to-end j1 in
+          let z = ec ∙ so-far .to-j2 ∙ to-all j2 from to o ∙ to-end j2 in
+          let t = ed ∙ so-far .to-t ∙ to-all tz from to o ∙ to-end tz in
+          let i0 = ap (λ (s : Four). s .3) x ∙ product-comm ms n iz j0 in
+          let i1 = ap (λ (s : Four). s .3) y ∙ product-comm ms n iz j1 in
+          let i2 = ap (λ (s : Four). s .3) z ∙ product-comm ms n iz j2 in (
+            λ k. record { m00 = x k .0; m01 = y k .0; m02 = z k .0; m10 = x k .1; m11 = y k .1; m12 = z k .1; m20 = x k .2; m21 = y k .2; m22 = z k .2 },
+            λ k. (i0 k, i1 k, i2 k),
+            λ k. (t k .0, t k .1, t k .2),
+          )
+
+  -- a turn goes through a stretch of marked pixels
+  pub sums-stretch : (q e i : ℕ) (r : Stretch) → e ≤ n → StretchOf ws i e r → (m m′ : List Float) → SumsTo q m i → SumsMore part n q (r .from) (r .to - r .from) m m′ → SumsTo q m′ (r .to)
+  sums-stretch q e i r within o m m′ so-far more = record {
+    to-j0 = to-stretch 5 (5 * n) (λ k. refl) e i r within o _ _ (so-far .to-j0) (more .with-j0);
+    to-j1 = to-stretch 0 0 (λ k. omega arith) e i r within o _ _ (so-far .to-j1) (more .with-j1);
+    to-j2 = to-stretch 1 n (λ k. omega arith) e i r within o _ _ (so-far .to-j2) (more .with-j2);
+    to-t = to-stretch 3 (3 * n) (λ k. refl) e i r within o _ _ (so-far .to-t) (more .with-t);
   }
-
-  pub upper-end : (s : Upper) → s ≡ upperTo n → mirrored s ≡ hessianOf ms n j0 j1 j2
-  unfolding upperTo hessianOf
-  upper-end s e =
-      let a00 = product-part ms add-upper zero-upper n (λ s. s .m00) refl j0 j0 (λ s i l m. refl) in
-      let a01 = product-part ms add-upper zero-upper n (λ s. s .m01) refl j0 j1 (λ s i l m. refl) in
-      let a02 = product-part ms add-upper zero-upper n (λ s. s .m02) refl j0 j2 (λ s i l m. refl) in
-      let a11 = product-part ms add-upper zero-upper n (λ s. s .m11) refl j1 j1 (λ s i l m. refl) in
-      let a12 = product-part ms add-upper zero-upper n (λ s. s .m12) refl j1 j2 (λ s i l m. refl) in
-      let a22 = product-part ms add-upper zero-upper n (λ s. s .m22) refl j2 j2 (λ s i l m. refl) in
-      let a10 = a01 ∙ product-comm ms n j0 j1 in
-      let a20 = a02 ∙ product-comm ms n j0 j2 in
-      let a21 = a12 ∙ product-comm ms n j1 j2 in
-      ap mirrored e ∙ λ k. record { m00 = a00 k; m01 = a01 k; m02 = a02 k; m10 = a10 k; m11 = a11 k; m12 = a12 k; m20 = a20 k; m21 = a21 k; m22 = a22 k }
 
 -- ---- the error at a pixel: by the images, and by places of the part
 pub error-is : (n : ℕ) (lambda : Float) (tz iz : List Float) (i : ℕ) → i < n → getD (errorOf n lambda tz iz) i nan ≡ lambda ⊗ getD tz i nan ⊖ getD iz i nan

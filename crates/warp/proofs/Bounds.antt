@@ -19,7 +19,8 @@ use Rattle.numbers.proofs.Small.{rest-within}
 use Rattle.pose.specs.declared.Map.{Map}
 use Rattle.places.specs.Point.{sxOf, syOf, markedAt, indexOf}
 use Rattle.places.proofs.Point.{fits-x, fits-y, marked-x, marked-y, spot-in}
-use Rattle.warp.specs.Warp.{fourOf, sampleOf, pixelOf, warpOf}
+use Rattle.blends.specs.Blend.{fourOf}
+use Rattle.warp.specs.Warp.{sampleOf, pixelOf, warpOf}
 
 -- ---- four pixels within 2 ^ k, and two weights within 1
 module _ (k : ℕ) (K : k ≤ 99) where

@@ -18,10 +18,11 @@ use Rattle.rows.specs.Rows.{markedRowsOf}
 use Rattle.pose.specs.declared.Map.{Map}
 use Rattle.places.specs.Point.{marksOf}
 use Rattle.warp.specs.Warp.{pixelOf, warpOf, Warped}
-use Rattle.warp.specs.Rows.{threeRows, warpedAt, Holding, WarpedThrough}
+use Rattle.blends.specs.Reads.{threeRows}
+use Rattle.blends.proofs.Beside.{three-none, three-join, three-length, three-sources}
+use Rattle.warp.specs.Rows.{warpedAt, Holding, WarpedThrough}
 use Rattle.warp.specs.declared.Found.{Found}
 use Rattle.warp.proofs.Marks.{front}
-use Rattle.warp.proofs.Beside.{three-none, three-join, three-length, three-sources}
 
 module _ (map : Map) (w h : ℕ) where
   -- words with the first p marks and no other bit, wherever they came from, hold these

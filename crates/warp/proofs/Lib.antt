@@ -1,5 +1,4 @@
 pub mod Pixel
-pub mod Beside
 pub mod Rows
 pub mod Pieces
 pub mod Frame

@@ -24,8 +24,9 @@ use Rattle.places.specs.Places.{PlaceAt, PlacesOf}
 use Rattle.places.proofs.Point.{spot-in}
 use Rattle.places.proofs.Sizes.{mark-on}
 use Rattle.warp.specs.Warp.{pixelOf}
-use Rattle.warp.specs.Rows.{threeRows, placedOf, readOf, Reach, warpedAt, Holding, WarpedThrough}
-use Rattle.warp.proofs.Beside.{three-ext}
+use Rattle.blends.specs.Reads.{threeRows, placedOf}
+use Rattle.blends.proofs.Beside.{three-ext}
+use Rattle.warp.specs.Rows.{readOf, Reach, warpedAt, Holding, WarpedThrough}
 use Rattle.warp.proofs.Pixel.{sample-is}
 
 module _ (map : Map) (w h x y len : ℕ) (spots : List ℕ) (across down : List Float) (flags : List ℕ) (p : PlacesOf map w h x y len spots across down flags) (inside : (y < h) × (x + len ≤ w)) where

@@ -4,36 +4,18 @@ use mathlib.Core.Bool.{true}
 use mathlib.Core.Path.{_≡_}
 use mathlib.Core.List.{List}
 use lib.ListN.{getD}
-use lib.Ieee.{Float, nan}
-use Rattle.lists.specs.Lists.{tab, put, image}
+use lib.Ieee.{Float}
+use Rattle.lists.specs.Lists.{put, image}
 use Rattle.lists.specs.Marked.{pick}
 use Rattle.marks.specs.Marks.{on}
 use Rattle.bits.specs.Packing.{wordsTo}
 use Rattle.floats.specs.F32.{0f}
 use Rattle.pose.specs.declared.Map.{Map}
 use Rattle.places.specs.Point.{marksOf}
-use Rattle.warp.specs.declared.Three.{Three}
-use Rattle.warp.specs.Warp.{fourOf, pixelOf}
+use Rattle.blends.specs.Reads.{threeRows, placedOf}
+use Rattle.warp.specs.Warp.{pixelOf}
 
--- the four pixels whose top left one stands at i
-unfoldable pub fourAt : List Float → ℕ → ℕ → Float → Float → Float
-fourAt src w i wx wy = fourOf (getD src i nan) (getD src (i + 1) nan) (getD src (i + w) nan) (getD src (i + w + 1) nan) wx wy
-
--- the same in each of the images 0 to 2
-pub record ThreeOf (n w i : ℕ) (a b : Float) (xs : List Float) (p : Three) : Type 0 where
-  pub first : p .0 ≡ fourAt (image n 0 xs) w i a b
-  pub second : p .1 ≡ fourAt (image n 1 xs) w i a b
-  pub third : p .2 ≡ fourAt (image n 2 xs) w i a b
-
--- m numbers put into each of the images 3 to 5, from the pixel `at` on: f k x for the pixel at + x, k from 0 to 2
-abbrev pub threeRows : ℕ → ℕ → ℕ → (ℕ → ℕ → Float) → List Float → List Float
-threeRows n at m f xs = put (put (put xs (3 * n + at) (tab m (f 0))) (4 * n + at) (tab m (f 1))) (5 * n + at) (tab m (f 2))
-
--- the places and weights of some pixels are stored in three lists: what is read by those of the pixel x in image k
-unfoldable pub placedOf : ℕ → ℕ → List ℕ → List Float → List Float → List Float → ℕ → ℕ → Float
-placedOf n w spots across down xs k x = fourAt (image n k xs) w (getD spots x 0) (getD across x nan) (getD down x nan)
-
--- the same for the pixel at + x of the image, 0 where it is not marked
+-- what is read for the pixel at + x of the image: 0 where it is not marked
 unfoldable pub readOf : ℕ → ℕ → ℕ → List ℕ → List ℕ → List Float → List Float → List Float → ℕ → ℕ → Float
 readOf n w at ms spots across down xs k x = pick (on ms (at + x)) (placedOf n w spots across down xs k x) 0f
 

@@ -8,15 +8,12 @@ use Rattle.lists.specs.Lists.{grid, put, image, setImage}
 use Rattle.lists.specs.Marked.{pick}
 use Rattle.marks.specs.Marks.{countOn}
 use Rattle.bits.specs.Words.{wordsOf}
-use Rattle.floats.specs.F32.{_⊕_, _⊖_, _⊗_, f32, 0f, 1f}
+use Rattle.floats.specs.F32.{_⊖_, f32, 0f}
 use Rattle.pose.specs.declared.Map.{Map}
 use Rattle.rows.specs.Rows.{markedRowsOf}
 use Rattle.places.specs.Point.{sxOf, syOf, markedAt, marksOf, indexOf}
+use Rattle.blends.specs.Blend.{fourOf}
 use Rattle.warp.specs.declared.Found.{Found}
-
--- p00 * w00 + p01 * w01 + p10 * w10 + p11 * w11, with w00 = (1.0 - wx) * (1.0 - wy), w01 = wx * (1.0 - wy), w10 = (1.0 - wx) * wy, w11 = wx * wy
-unfoldable pub fourOf : Float → Float → Float → Float → Float → Float → Float
-fourOf p00 p01 p10 p11 wx wy = p00 ⊗ ((1f ⊖ wx) ⊗ (1f ⊖ wy)) ⊕ p01 ⊗ (wx ⊗ (1f ⊖ wy)) ⊕ p10 ⊗ ((1f ⊖ wx) ⊗ wy) ⊕ p11 ⊗ (wx ⊗ wy)
 
 -- the four pixels of the point sx, sy: src[i00], src[i01], src[i10], src[i11], with wx = sx - x0 as f32 and wy = sy - y0 as f32
 unfoldable pub sampleOf : List Float → ℕ → Float → Float → Float

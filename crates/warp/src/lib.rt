@@ -3,8 +3,8 @@
 // A pixel is marked exactly when its computed point lies inside (crate places). Unmarked places hold +0 in all three answers. The four
 // source pixels of a marked pixel are proved to lie inside: there is no clamp. A row is worked out in pieces of at most 256 pixels: first
 // the places, weights and flags of a piece, in a loop that the compiler can take several pixels at a time; then its flags are packed into
-// the words of the marks; then its pixels are read, a stretch of marked ones after the other, with no test in a stretch. The scratch for
-// a piece is small, so that the warp holds it itself.
+// the words of the marks; then its pixels are read (crate blends), a stretch of marked ones after the other. The scratch for a piece is
+// small, so that the warp holds it itself.
 ghost use mathlib.Core.Path.{_≡_};
 ghost use Prim.Native.Nat.{ℕ, _+_, _-_, _*_, _≤_, _<_};
 ghost use lib.ListN.{length, getD};
@@ -13,80 +13,13 @@ ghost use Rattle.lists.specs.Marked.{wordsFor};
 ghost use Rattle.floats.specs.F32.{0f};
 ghost use Rattle.bits.specs.Words.{unpackedOf};
 ghost use Rattle.warp.specs.Warp.{Warped};
-ghost use Rattle.warp.specs.Rows.{fourAt, ThreeOf, threeRows, placedOf, readOf, Reach, Holding, WarpedThrough};
+ghost use Rattle.blends.specs.Reads.{threeRows};
+ghost use Rattle.warp.specs.Rows.{readOf, Reach, Holding, WarpedThrough};
 
 // What the warp has marked: how many pixels, and the first and the last row that hold one.
 pub struct Found {
     pub count: usize,
     pub rows: rows::MarkedRows,
-}
-
-// A pixel of the three warped images.
-struct Three(f32, f32, f32);
-
-// A place as a usize.
-fn wide(i: u32) -> usize
-    ensures { λ r. ⌜ r ≡ i ⌝ }
-{
-    i as usize
-}
-
-// Four pixels, the top left one at i, weighed and added.
-fn blend(src: &[f32], w: usize, i: usize, a: f32, b: f32) -> f32
-    requires { ⌜ i + w + 1 < length (now src) ⌝ }
-    ensures { λ r. ⌜ r ≡ fourAt (now (src .entry)) w i a b ⌝ }
-{
-    let j = i + w;
-    src[i] * ((1.0 - a) * (1.0 - b))
-        + src[i + 1] * (a * (1.0 - b))
-        + src[j] * ((1.0 - a) * b)
-        + src[j + 1] * (a * b)
-}
-
-// The same in each of the images 0 to 2.
-fn mix(part: &[f32], w: usize, n: usize, i: usize, a: f32, b: f32) -> Three
-    requires { ⌜ (3 * n ≤ length (now part)) × (i + w + 1 < n) ⌝ }
-    ensures { λ r. ⌜ ThreeOf n w i a b (now (part .entry)) r ⌝ }
-{
-    let first = blend(part, w, i, a, b);
-    let second = blend(part, w, n + i, a, b);
-    let third = blend(part, w, 2 * n + i, a, b);
-    Three(first, second, third)
-}
-
-// The pixels from `from` to `to` of a piece that starts at the pixel `at`, each of them marked, are read by their places and weights.
-fn reads_stretch(
-    part: &mut [f32],
-    spots: &[u32],
-    across: &[f32],
-    down: &[f32],
-    w: usize,
-    n: usize,
-    at: usize,
-    from: usize,
-    to: usize,
-)
-    requires { ⌜
-        (from ≤ to) × (at + to ≤ n) × (6 * n ≤ length (now part)) × (to ≤ length (now spots)) × (to ≤ length (now across)) × (to ≤ length (now down))
-        × ((x : ℕ) → from ≤ x → x < to → getD (now spots) x 0 + w + 1 < n)
-        ⌝ }
-    ensures { λ _. ⌜
-        now (part .exit) ≡ threeRows n (at + from) (to - from)
-        (λ k x. placedOf n w (now (spots .entry)) (now (across .entry)) (now (down .entry)) (now (part .entry)) k (from + x))
-        (now (part .entry))
-        ⌝ }
-{
-    let first = 3 * n + at;
-    let second = 4 * n + at;
-    let third = 5 * n + at;
-    let mut x = from;
-    while x < to {
-        let p = mix(part, w, n, wide(spots[x]), across[x], down[x]);
-        part[first + x] = p.0;
-        part[second + x] = p.1;
-        part[third + x] = p.2;
-        x += 1;
-    }
 }
 
 // The pixels from `from` to `to` of the image, none of them marked, become +0 in the images 3 to 5. One loop for all three: mostly it is one pixel.
@@ -132,7 +65,7 @@ fn reads(
     while x < len {
         let r = bits::next_stretch(marks, at + x, at + len);
         clear_stretch(part, n, at + x, r.from);
-        reads_stretch(part, spots, across, down, w, n, at, r.from - at, r.to - at);
+        blends::reads_stretch(part, spots, across, down, w, n, at, r.from - at, r.to - at);
         x = r.to - at;
     }
 }

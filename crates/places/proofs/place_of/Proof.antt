@@ -6,7 +6,8 @@ use mathlib.Core.Bool.{Bool}
 use native.Mathlib.Omega.{arith}
 use borrow.Author.Needs.{needs}
 use lib.Dec.{T}
-use lib.Ieee.{Float, binary32, inUnsigned, toUnsigned}
+use lib.IntN.{pos}
+use lib.Ieee.{Float, binary32, inSigned, toSigned, toUnsigned}
 use Rattle.lists.specs.Marked.{pick}
 use Rattle.floats.specs.F32.{_⊕_, _⊖_, _⊗_, f32, 0f}
 use Rattle.numbers.proofs.Small.{Below}
@@ -56,7 +57,7 @@ y0-is c = c .floor-small2 .ensures ∙ ap (λ (s : Float). f32 (indexOf s)) (y-i
 spot : (c : tie.After-to-f32-short) →
     let s = c .before .before .before .before .before .before .before .before in
     let v = c .before .floor-small2 .result ⊗ c .to-f32-short .result ⊕ c .before .before .floor-small .result in
-    T (inUnsigned binary32 32 v) × (toUnsigned 32 v ≡ indexOf (ty s) * s .args .w + indexOf (tx s))
+    T (inSigned binary32 31 v) × (toSigned 31 v ≡ pos (toUnsigned 32 v)) × (toUnsigned 32 v ≡ indexOf (ty s) * s .args .w + indexOf (tx s))
 unfolding indexOf
 spot c =
     let d = c .before in
@@ -95,7 +96,7 @@ to-f32-short-requires : tie.Need-to-f32-short-requires
 to-f32-short-requires c κs = search needs
 
 index-requires : tie.Need-index-requires
-index-requires c κs = spot c .0
+index-requires c κs = let p = spot c in (p .0, p .1)
 
 mul-flag : tie.Need-mul-flag
 mul-flag c = omega (arith, row (c .before .before .before .before .before .before .before .before .before))
@@ -113,7 +114,7 @@ returns c =
     let a = d .before .before .before .before .before .args in
     place-of (a .map) (a .w) (a .h) (a .x) (a .y) _ (c .flag .ensures ∙ ap (λ (b : Bool). flagOf b (a .y * a .w + a .x)) (within-is d))
     (record {
-      at-is = c .before .index .ensures ∙ spot (c .before .before) .1;
+      at-is = c .before .index .ensures ∙ spot (c .before .before) .2;
       across-is = ap₂ _⊖_ (x-is d) (x0-is f);
       down-is = ap₂ _⊖_ (y-is d) (y0-is f);
     })

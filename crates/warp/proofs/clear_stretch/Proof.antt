@@ -6,7 +6,7 @@ use borrow.Author.Needs.{needs}
 use denote.Ref.{now}
 use lib.ListN.{length-set}
 use Rattle.floats.specs.F32.{0f}
-use Rattle.warp.proofs.Rows.{StretchHeld, stretch-start, stretch-more, stretch-end}
+use Rattle.blends.proofs.Stretch.{StretchHeld, stretch-start, stretch-more, stretch-end}
 use Rattle.warp.proofs.clear_stretch.Statement.{statement}
 use Rattle.warp.proofs.clear_stretch.Tie as tie
 

@@ -53,6 +53,7 @@ reads-stretch-requires c κs =
     let a = s .args in
     let kept = c .before .before .before .before .before .clear-stretch .kept .0 in
     let f = s .pre in (
+      omega arith,
       omega (arith, o .order),
       omega (arith, o .low, o .order, o .high),
       omega (arith, l .inv .part-length, kept),

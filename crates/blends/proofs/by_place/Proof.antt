@@ -1,12 +1,12 @@
--- `warp::reads_stretch` meets its contract. Assumes nothing.
+-- `blends::by_place` meets its contract. Assumes nothing.
 use Prim.Native.Nat.{_+_, _-_}
 use native.Mathlib.Omega.{arith}
 use borrow.Author.Needs.{needs}
 use denote.Ref.{now}
 use lib.ListN.{length-set}
-use Rattle.warp.proofs.Rows.{StretchHeld, stretch-start, stretch-end, taken, taken-turn}
-use Rattle.warp.proofs.reads_stretch.Statement.{statement}
-use Rattle.warp.proofs.reads_stretch.Tie as tie
+use Rattle.blends.proofs.Stretch.{StretchHeld, stretch-start, stretch-end, taken, taken-turn}
+use Rattle.blends.proofs.by_place.Statement.{statement}
+use Rattle.blends.proofs.by_place.Tie as tie
 
 abbrev Inv-loop : tie.InvT-loop
 Inv-loop part₀ spots across down w n at from to first second third x₀ part x =
@@ -114,8 +114,8 @@ returns c =
     let a = c .before .before .before .before .before .before .args in
     stretch-end (a .n) (a .at + a .from) (a .from) (a .to) _ (now (a .part)) (omega arith) (l .part) (l .x) (omega (arith, l .inv .bound)) (l .inv)
 
-pub reads-stretch-spec : {M : Type 1} → statement M
-reads-stretch-spec =
+pub by-place-spec : {M : Type 1} → statement M
+by-place-spec =
     tie.close
     (tie.spec
     Inv-loop

@@ -1,11 +1,11 @@
--- `warp::mix` meets its contract. Assumes nothing.
+-- `blends::mix` meets its contract. Assumes nothing.
 use Prim.Native.Nat.{_+_, _*_}
 use native.Mathlib.Omega.{arith}
 use borrow.Author.Needs.{needs}
 use denote.Ref.{now}
-use Rattle.warp.proofs.Pixel.{mixed}
-use Rattle.warp.proofs.mix.Statement.{statement}
-use Rattle.warp.proofs.mix.Tie as tie
+use Rattle.blends.proofs.Pixel.{mixed}
+use Rattle.blends.proofs.mix.Statement.{statement}
+use Rattle.blends.proofs.mix.Tie as tie
 
 blend-requires : tie.Need-blend-requires
 blend-requires c κs = search needs

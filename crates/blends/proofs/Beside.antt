@@ -10,7 +10,7 @@ use Rattle.lists.specs.Lists.{tab, image}
 use Rattle.lists.proofs.Fill.{Spaced, fills-none, fills-more, fills-join, length-fills, take-fills}
 use Rattle.lists.proofs.Grow.{tab-ext}
 use Rattle.lists.proofs.Images.{image-agree}
-use Rattle.warp.specs.Rows.{threeRows}
+use Rattle.blends.specs.Reads.{threeRows}
 
 module _ (n at : ℕ) (f : ℕ → ℕ → Float) (xs : List Float) where
   abbrev targets : List (ℕ × (ℕ → Float))

@@ -1,10 +1,10 @@
--- `warp::blend` meets its contract. Assumes nothing.
+-- `blends::blend` meets its contract. Assumes nothing.
 use borrow.Author.Needs.{needs}
 use mathlib.Core.Path.{refl}
-use Rattle.warp.specs.Warp.{fourOf}
-use Rattle.warp.specs.Rows.{fourAt}
-use Rattle.warp.proofs.blend.Statement.{statement}
-use Rattle.warp.proofs.blend.Tie as tie
+use Rattle.blends.specs.Blend.{fourOf}
+use Rattle.blends.specs.Reads.{fourAt}
+use Rattle.blends.proofs.blend.Statement.{statement}
+use Rattle.blends.proofs.blend.Tie as tie
 
 add-j : tie.Need-add-j
 add-j c = search needs

@@ -1,0 +1,4 @@
+pub mod Pixel
+pub mod Beside
+pub mod Stretch
+pub mod Runs
