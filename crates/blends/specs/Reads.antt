@@ -1,9 +1,9 @@
 -- What is read at given places, and where one of them does not follow the one before. Definitions only.
-use Prim.Native.Nat.{ℕ, zero, suc, _+_, _*_}
+use Prim.Native.Nat.{ℕ, zero, suc, _+_, _-_, _*_, _≤_, _<_}
 use mathlib.Core.Path.{_≡_}
 use mathlib.Core.List.{List}
 use lib.Dec.{eqb}
-use lib.ListN.{getD}
+use lib.ListN.{length, getD}
 use lib.Ieee.{Float, nan}
 use Rattle.lists.specs.Lists.{tab, put, image}
 use Rattle.lists.specs.Marked.{pick}
@@ -32,3 +32,13 @@ placedOf n w spots across down xs k x = fourAt (image n k xs) w (getD spots x 0)
 unfoldable pub breaksOf : List ℕ → ℕ → ℕ → ℕ
 breaksOf spots from zero = 0
 breaksOf spots from (suc k) = breaksOf spots from k + pick (eqb (getD spots (from + k + 1) 0) (getD spots (from + k) 0 + 1)) 0 1
+
+-- the pixels from `from` to `to` of a piece that starts at the pixel `at` lie in it, and the four pixels of each lie within the image of n
+abbrev pub Placed : (n w at from to : ℕ) → List ℕ → List Float → List Float → List Float → Type 0
+Placed n w at from to spots across down xs =
+    (from ≤ to) × (at + to ≤ n) × (6 * n ≤ length xs) × (to ≤ length spots) × (to ≤ length across) × (to ≤ length down)
+    × ((x : ℕ) → from ≤ x → x < to → getD spots x 0 + w + 1 < n)
+
+-- these pixels are read by their places and weights into each of the images 3 to 5, and nothing else has changed
+abbrev pub Taken : (n w at from to : ℕ) → List ℕ → List Float → List Float → List Float → List Float → Type 0
+Taken n w at from to spots across down xs xs′ = xs′ ≡ threeRows n (at + from) (to - from) (λ k x. placedOf n w spots across down xs k (from + x)) xs

@@ -8,7 +8,7 @@ ghost use Prim.Native.Nat.{ℕ, _+_, _-_, _*_, _≤_, _<_};
 ghost use lib.Ieee.{nan};
 ghost use lib.ListN.{length, getD};
 ghost use Rattle.lists.specs.Lists.{tab, put};
-ghost use Rattle.blends.specs.Reads.{fourAt, ThreeOf, threeRows, placedOf, breaksOf};
+ghost use Rattle.blends.specs.Reads.{fourAt, ThreeOf, breaksOf, Placed, Taken};
 
 // A pixel of the three warped images.
 struct Three(f32, f32, f32);
@@ -55,15 +55,8 @@ fn by_place(
     from: usize,
     to: usize,
 )
-    requires { ⌜
-        (from ≤ to) × (at + to ≤ n) × (6 * n ≤ length (now part)) × (to ≤ length (now spots)) × (to ≤ length (now across)) × (to ≤ length (now down))
-        × ((x : ℕ) → from ≤ x → x < to → getD (now spots) x 0 + w + 1 < n)
-        ⌝ }
-    ensures { λ _. ⌜
-        now (part .exit) ≡ threeRows n (at + from) (to - from)
-        (λ k x. placedOf n w (now (spots .entry)) (now (across .entry)) (now (down .entry)) (now (part .entry)) k (from + x))
-        (now (part .entry))
-        ⌝ }
+    requires { ⌜ Placed n w at from to (now spots) (now across) (now down) (now part) ⌝ }
+    ensures { λ _. ⌜ Taken n w at from to (now (spots .entry)) (now (across .entry)) (now (down .entry)) (now (part .entry)) (now (part .exit)) ⌝ }
 {
     let first = 3 * n + at;
     let second = 4 * n + at;
@@ -134,16 +127,8 @@ fn by_run(
     from: usize,
     to: usize,
 )
-    requires { ⌜
-        (from < to) × (breaksOf (now spots) from (to - from - 1) ≡ 0)
-        × (at + to ≤ n) × (6 * n ≤ length (now part)) × (to ≤ length (now spots)) × (to ≤ length (now across)) × (to ≤ length (now down))
-        × ((x : ℕ) → from ≤ x → x < to → getD (now spots) x 0 + w + 1 < n)
-        ⌝ }
-    ensures { λ _. ⌜
-        now (part .exit) ≡ threeRows n (at + from) (to - from)
-        (λ k x. placedOf n w (now (spots .entry)) (now (across .entry)) (now (down .entry)) (now (part .entry)) k (from + x))
-        (now (part .entry))
-        ⌝ }
+    requires { ⌜ (from < to) × (breaksOf (now spots) from (to - from - 1) ≡ 0) × Placed n w at from to (now spots) (now across) (now down) (now part) ⌝ }
+    ensures { λ _. ⌜ Taken n w at from to (now (spots .entry)) (now (across .entry)) (now (down .entry)) (now (part .entry)) (now (part .exit)) ⌝ }
 {
     let len = to - from;
     let i = wide(spots[from]);
@@ -173,16 +158,8 @@ fn by_blocks(
     from: usize,
     to: usize,
 )
-    requires { ⌜
-        (n ≤ 16777216) × (from ≤ to)
-        × (at + to ≤ n) × (6 * n ≤ length (now part)) × (to ≤ length (now spots)) × (to ≤ length (now across)) × (to ≤ length (now down))
-        × ((x : ℕ) → from ≤ x → x < to → getD (now spots) x 0 + w + 1 < n)
-        ⌝ }
-    ensures { λ _. ⌜
-        now (part .exit) ≡ threeRows n (at + from) (to - from)
-        (λ k x. placedOf n w (now (spots .entry)) (now (across .entry)) (now (down .entry)) (now (part .entry)) k (from + x))
-        (now (part .entry))
-        ⌝ }
+    requires { ⌜ (n ≤ 16777216) × Placed n w at from to (now spots) (now across) (now down) (now part) ⌝ }
+    ensures { λ _. ⌜ Taken n w at from to (now (spots .entry)) (now (across .entry)) (now (down .entry)) (now (part .entry)) (now (part .exit)) ⌝ }
 {
     let mut x = from;
     while x < to {
@@ -208,16 +185,8 @@ pub fn reads_stretch(
     from: usize,
     to: usize,
 )
-    requires { ⌜
-        (n ≤ 16777216) × (from ≤ to)
-        × (at + to ≤ n) × (6 * n ≤ length (now part)) × (to ≤ length (now spots)) × (to ≤ length (now across)) × (to ≤ length (now down))
-        × ((x : ℕ) → from ≤ x → x < to → getD (now spots) x 0 + w + 1 < n)
-        ⌝ }
-    ensures { λ _. ⌜
-        now (part .exit) ≡ threeRows n (at + from) (to - from)
-        (λ k x. placedOf n w (now (spots .entry)) (now (across .entry)) (now (down .entry)) (now (part .entry)) k (from + x))
-        (now (part .entry))
-        ⌝ }
+    requires { ⌜ (n ≤ 16777216) × Placed n w at from to (now spots) (now across) (now down) (now part) ⌝ }
+    ensures { λ _. ⌜ Taken n w at from to (now (spots .entry)) (now (across .entry)) (now (down .entry)) (now (part .entry)) (now (part .exit)) ⌝ }
 {
     if from < to {
         if breaks(spots, from, to) == 0 {

@@ -34,7 +34,7 @@ reach : (d : tie.After-least Inv-loop μ-loop) (x : ℕ) → d .before .before .
     let a = d .before .before .before .before .before .before .before .args in getD (now (a .spots)) x 0 + a .w + 1 < a .n
 reach d x p q =
     let s = d .before .before .before .before .before .before .before in
-    s .pre .7 x (omega (arith, d .before .before .loop .inv .low)) (omega (arith, turn d .1))
+    s .pre .1 .6 x (omega (arith, d .before .before .loop .inv .low)) (omega (arith, turn d .1))
 
 breaks-requires : tie.Need-breaks-requires Inv-loop μ-loop
 breaks-requires c κs =
@@ -47,7 +47,7 @@ by-run-requires c κs =
     let d = c .before .before .before in
     let t = turn d in
     let l = d .before .before .loop in
-    (t .0, sym (c .before .before .breaks .ensures) ∙ c .before .if1 .taken, omega arith, omega (arith, l .inv .part-length), omega arith, omega arith, omega arith, reach d)
+    (t .0, sym (c .before .before .breaks .ensures) ∙ c .before .if1 .taken, (omega arith, omega arith, omega (arith, l .inv .part-length), omega arith, omega arith, omega arith, reach d))
 
 by-place-requires : tie.Need-by-place-requires Inv-loop μ-loop
 by-place-requires c κs =

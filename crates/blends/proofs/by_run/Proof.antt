@@ -19,7 +19,7 @@ inside s =
     let a = s .args in
     let last : a .from + (a .to - a .from - 1) ≡ a .to - 1 = omega arith in
     let e = follow s (a .to - a .from - 1) (omega arith) in
-    let r = s .pre .7 (a .to - 1) (omega arith) (omega arith) in
+    let r = s .pre .2 .6 (a .to - 1) (omega arith) (omega arith) in
     omega (arith, rw last at e, r)
 
 sub-len : tie.Need-sub-len

@@ -13,7 +13,7 @@ use Rattle.blends.proofs.reads_stretch.Tie as tie
 breaks-requires : tie.Need-breaks-requires
 breaks-requires c κs =
     let f = c .before .before .before .before .before .pre in
-    (omega arith, omega arith, omega arith, λ x p q. omega (arith, f .7 x p q))
+    (omega arith, omega arith, omega arith, λ x p q. omega (arith, f .1 .6 x p q))
 
 by-run-requires : tie.Need-by-run-requires
 by-run-requires c κs = search needs

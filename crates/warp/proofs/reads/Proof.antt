@@ -54,13 +54,15 @@ reads-stretch-requires c κs =
     let kept = c .before .before .before .before .before .clear-stretch .kept .0 in
     let f = s .pre in (
       omega arith,
-      omega (arith, o .order),
-      omega (arith, o .low, o .order, o .high),
-      omega (arith, l .inv .part-length, kept),
-      omega (arith, o .high),
-      omega (arith, o .high),
-      omega (arith, o .high),
-      λ x p q. f .7 .reach x (omega (arith, o .low, o .high)) (stretch-full (now (a .marks)) (a .n) (a .at + a .len) (a .at + l .x) r (f .0) o (a .at + x) (omega (arith, o .low)) (omega (arith, o .low, o .order))),
+      (
+        omega (arith, o .order),
+        omega (arith, o .low, o .order, o .high),
+        omega (arith, l .inv .part-length, kept),
+        omega (arith, o .high),
+        omega (arith, o .high),
+        omega (arith, o .high),
+        λ x p q. f .7 .reach x (omega (arith, o .low, o .high)) (stretch-full (now (a .marks)) (a .n) (a .at + a .len) (a .at + l .x) r (f .0) o (a .at + x) (omega (arith, o .low)) (omega (arith, o .low, o .order))),
+      ),
     )
 
 sub-x : tie.Need-sub-x Inv-loop μ-loop
