@@ -3,7 +3,8 @@
 
 An innermost loop is told by its float arithmetic: how many multiplications and additions it has of four numbers at once, and how many of one. The
 files are named x86_64.s and aarch64.s. A loop that is not found has fallen apart: the compiler works on one number at a time, or builds its fours by
-moves. Where llvm-mca is at hand (MCA may name it) its estimate of cycles is added; it knows no cache and no branch.
+moves. Where llvm-mca is at hand (MCA may name it) its estimate of cycles is added; it knows no cache and no branch. Version 19 knows all four
+processors; an older one takes another's numbers for those that it does not know.
 """
 import os
 import re
