@@ -3,6 +3,8 @@
 //
 // Any record, store, frame, sides, work and marks may be handed in. The first checks (2, length, 13) leave record and store as they
 // were. After them the frame becomes the previous one, whatever the answer.
+#![tactic(auto)]
+
 ghost use Rattle.std.specs.Prelude.{◌≡◌, ◌*◌, ◌≤◌, length};
 ghost use Rattle.lists.specs.Lists.{put};
 ghost use Rattle.checks.specs.Checks.{size_of};
@@ -14,7 +16,7 @@ use pose::{Answer, Outcome};
 use settings::EccConfig;
 
 // The settings; whether a frame is remembered, and its sides.
-#[derive(Drop)]
+#[derive(Clone, Copy)]
 pub struct EccAligner {
     pub cfg: EccConfig,
     pub held: bool,
@@ -23,7 +25,7 @@ pub struct EccAligner {
 }
 
 // The aligner after a frame, and the answer.
-#[derive(Drop)]
+#[derive(Clone, Copy)]
 pub struct Reply {
     pub aligner: EccAligner,
     pub outcome: Outcome,

@@ -1,12 +1,14 @@
 // A file's bytes, read into a lent buffer until the file ends, a read fails or the buffer is full.
 //
 // What each read answers goes to `after_read`, whose contract settles what comes of it.
+#![tactic(auto)]
+
 ghost use Rattle.std.specs.Prelude.{◌≡◌, true, ◌+◌, ◌≤◌, ◌<◌, length, take};
 ghost use Rattle.libc.specs.Io.{Moved};
 ghost use Rattle.files.specs.Fill.{empty_of, after_read, Grown, Gathered};
 
 // The first bytes of a buffer are a file's, as far as it was read.
-#[derive(Drop)]
+#[derive(Clone, Copy)]
 pub struct Filled {
     pub count: usize,
     // No read has failed.

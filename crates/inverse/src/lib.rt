@@ -1,12 +1,14 @@
 // The inverse of a 3x3 matrix of f32, by document 01's rule: none where the determinant is a zero of either sign. A determinant that is
 // infinite or a NaN counts as there, and so do the entries that come of it.
+#![tactic(auto)]
+
 ghost use Rattle.std.specs.Prelude.{◌≡◌};
 ghost use Rattle.inverse.specs.Inverse.{rows_over_of, inverse_of, times_of, dot_of};
 
-#[derive(Drop)]
+#[derive(Clone, Copy)]
 pub struct Vector3(pub f32, pub f32, pub f32);
 
-#[derive(Drop)]
+#[derive(Clone, Copy)]
 pub struct Matrix3 {
     pub m00: f32,
     pub m01: f32,
@@ -19,7 +21,7 @@ pub struct Matrix3 {
     pub m22: f32,
 }
 
-#[derive(Drop)]
+#[derive(Clone, Copy)]
 pub enum Inverse {
     Exists(Matrix3),
     Missing,

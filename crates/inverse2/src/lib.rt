@@ -1,12 +1,14 @@
 // The inverse of a 2x2 matrix of f32, by document 02's rule for the rail: none where the determinant is a zero of either sign. A determinant that is
 // infinite or a NaN counts as there, and so do the entries that come of it.
+#![tactic(auto)]
+
 ghost use Rattle.std.specs.Prelude.{◌≡◌};
 ghost use Rattle.inverse2.specs.Inverse.{inverse2_of, times2_of, dot2_of};
 
-#[derive(Drop)]
+#[derive(Clone, Copy)]
 pub struct Vector2(pub f32, pub f32);
 
-#[derive(Drop)]
+#[derive(Clone, Copy)]
 pub struct Matrix2 {
     pub m00: f32,
     pub m01: f32,
@@ -14,7 +16,7 @@ pub struct Matrix2 {
     pub m11: f32,
 }
 
-#[derive(Drop)]
+#[derive(Clone, Copy)]
 pub enum Inverse2 {
     Exists(Matrix2),
     Missing,

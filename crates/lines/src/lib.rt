@@ -1,11 +1,13 @@
 // What is printed of a frame: its position from 1, the number of its answer, the passes, and the numbers for the pins.
+#![tactic(auto)]
+
 ghost use Rattle.std.specs.Prelude.{◌≡◌, ◌<◌};
 ghost use Rattle.lines.specs.Lines.{line_of};
 
 use pose::Outcome;
 
 // What is printed of a frame.
-#[derive(Drop)]
+#[derive(Clone, Copy)]
 pub struct Line {
     pub position: u64,
     pub number: u8,

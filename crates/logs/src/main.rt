@@ -1,5 +1,7 @@
 // Runs stored streams of records, one file after another, through what pinlog runs, and prints each one's name and log. The streams and
 // what is to be printed come from a model (tools/vectors/streams.rs).
+#![tactic(auto)]
+
 use libc::STDOUT_FILENO;
 
 // The file's name without its ending, then its log.

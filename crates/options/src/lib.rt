@@ -1,4 +1,6 @@
 // The words of a command line: settings, or a picture's name. Any bytes may be handed in.
+#![tactic(auto)]
+
 ghost use Rattle.std.specs.Prelude.{◌≡◌, ◌+◌, ◌≤◌, ◌<◌, ◌^◌, length, drop};
 ghost use Rattle.settings.specs.Settings.{defaults_of};
 ghost use Rattle.options.specs.Words.{begins as Words·begins, whole_of, ratio_of, exponent_of, tail_of, behind_of, eps_of, on_value, with_eps, with_passes, with_filter, with_edge, other_of, word_of, options_of};
@@ -6,14 +8,14 @@ ghost use Rattle.options.specs.Words.{begins as Words·begins, whole_of, ratio_o
 use settings::EccConfig;
 
 // A number, or why there is none, by the table of specs/Words.antt.
-#[derive(Drop)]
+#[derive(Clone, Copy)]
 pub enum Value {
     Is(usize),
     Wrong(u8),
 }
 
 // The numbers of a settings record, as its fields hold them: the bits of eps, max_iter, the filter's size and the edge, 0 for none.
-#[derive(Drop)]
+#[derive(Clone, Copy)]
 pub struct Options {
     pub eps: usize,
     pub passes: usize,
@@ -22,7 +24,7 @@ pub struct Options {
 }
 
 // What a word is: settings that were changed, a picture's name, or neither, and why, by the same table.
-#[derive(Drop)]
+#[derive(Clone, Copy)]
 pub enum Taken {
     Settings(Options),
     Picture,

@@ -1,6 +1,8 @@
 // PGM pictures, plain (P2) and binary (P5), with 8 bits to a pixel, as frame records.
 //
 // Any bytes may be handed in, and room of any length.
+#![tactic(auto)]
+
 ghost use Rattle.std.specs.Prelude.{◌≡◌, false, ◌+◌, ◌*◌, ◌≤◌, length, drop, get_or};
 ghost use Rattle.lists.specs.Lists.{put};
 ghost use Rattle.pgm.specs.Pgm.{blank, open_after, between, gap_of, number_at, kind, magic, start_of, from1_to, ranges_of, header_of};
@@ -9,14 +11,14 @@ ghost use Rattle.pgm.specs.Frame.{pixel_at, gray_pixels_of, fault_of, made_of, r
 use scan::Digits;
 
 // A number and the index after it, or none.
-#[derive(Drop)]
+#[derive(Clone, Copy)]
 pub enum Found {
     Number(Digits),
     Nothing,
 }
 
 // What stands before the pixels, which begin at index at; or why this is no picture.
-#[derive(Drop)]
+#[derive(Clone, Copy)]
 pub enum Header {
     Good {
         is_plain: bool,
@@ -29,7 +31,7 @@ pub enum Header {
 }
 
 // A frame record of so many bytes, or why there is none.
-#[derive(Drop)]
+#[derive(Clone, Copy)]
 pub enum Made {
     Size(usize),
     Refused(u8),

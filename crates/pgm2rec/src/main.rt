@@ -7,6 +7,8 @@
 // written are whole records. A setting behind the last picture is named there too. `--help`, or no word at all, has the usage told.
 //
 // What the system answers is handed to a function whose contract settles what comes of it: `heard`, `opened`, `filled`, `written`.
+#![tactic(auto)]
+
 ghost use Rattle.std.specs.Prelude.{◌≡◌, Bool, ◌&&◌, ◌++◌, ◌+◌, ◌≤◌, ◌<◌, length};
 ghost use Rattle.lists.specs.Lists.{put};
 ghost use Rattle.options.specs.Words.{word_of};
@@ -21,7 +23,7 @@ use options::{Options, Taken};
 use pgm::Made;
 
 // Between two words.
-#[derive(Drop)]
+#[derive(Clone, Copy)]
 struct Run {
     options: Options,
     // The settings are still to be written.

@@ -3,6 +3,8 @@
 //
 // A pixel is marked exactly when its computed point lies inside: 0 <= sx < w - 1 and 0 <= sy < h - 1 in f32, so never where the point is a
 // NaN. The loop works out numbers alone and reads no image, so that the compiler can take several pixels at a time.
+#![tactic(auto)]
+
 ghost use Rattle.std.specs.Prelude.{◌≡◌, ◌+◌, ◌*◌, ◌≤◌, ◌<◌, T, pos};
 ghost use Rattle.std.specs.Float.{binary32};
 ghost use Rattle.std.specs.Float.Ieee.{in_signed, to_signed, to_unsigned};
@@ -13,7 +15,7 @@ ghost use Rattle.places.specs.Point.{sx_of, sy_of, inside};
 ghost use Rattle.places.specs.Places.{PlaceOf, PlacesOf};
 
 // The source of a pixel: where the top left of its four pixels lies, the weights of the right and of the lower ones, and its flag.
-#[derive(Drop)]
+#[derive(Clone, Copy)]
 struct Place {
     at: u32,
     across: f32,

@@ -1,5 +1,7 @@
 // The two calls of the system on which the program stands: one read and one write. What a read brings and what becomes of a write have no place in a
 // contract, so nothing else is done here.
+#![tactic(auto)]
+
 ghost use Rattle.std.specs.Prelude.{◌≡◌, ◌≤◌, length, take};
 ghost use Rattle.ports.specs.Ports.{Handed, Fetched};
 

@@ -3,6 +3,8 @@
 // What happens at each record is crate stream's; what a line says is crate text's; the two calls of the system are crate ports'. Here bytes are read
 // into a buffer and handed on, and lines are written: what waits is written before each read, so that every line is out before the program waits.
 // The contract of `log` says what its turns read and hand to each write; that this is the text of the whole stream is crate printed's theorem.
+#![tactic(auto)]
+
 ghost use Rattle.std.specs.Prelude.{◌≡◌, ◌+◌, ◌-◌, ◌≤◌, ◌<◌, length, take, drop};
 ghost use Rattle.lists.specs.Lists.{put};
 ghost use Rattle.text.specs.Text.{Wrote};
@@ -18,7 +20,7 @@ use stream::{End, Event, State, Step};
 
 // The bytes from at to end of the input's buffer are still to be used, and the first put bytes of the output's buffer are still to be
 // written.
-#[derive(Drop)]
+#[derive(Clone, Copy)]
 pub struct Run {
     pub at: usize,
     pub end: usize,

@@ -1,5 +1,7 @@
 // Prints what `files::fill` makes of a directory, which opens but can't be read, and of stored files, with 16 bytes lent: the name, whether
 // every read went well, how many bytes are held, and those bytes. What is to be printed comes from tools/pictures.
+#![tactic(auto)]
+
 use libc::STDOUT_FILENO;
 
 // A file's line.

@@ -2,13 +2,15 @@
 //
 // Any bytes may be handed in. They are what is at hand of a stream, from a record's start on, and may end before the record does. What
 // is broken is said as soon as the bytes show it; a body that is read over need not be at hand.
+#![tactic(auto)]
+
 ghost use Rattle.std.specs.Prelude.{◌≡◌, ◌+◌, ◌≤◌, ◌<◌, length};
 ghost use Rattle.records.specs.Reading.{half_at, word_at, choice_of, config_at, settings_of, frame_of, body_of, next_of};
 
 use settings::{EccConfig, LongEdge};
 
 // What stands at the start of some bytes.
-#[derive(Drop)]
+#[derive(Clone, Copy)]
 pub enum Record {
     // Too few bytes are at hand to say.
     More,

@@ -2,6 +2,8 @@
 //
 // A line of the input is a vector: words in hexadecimal, the kind first. The vectors come from outside the code that
 // they test (tools/vectors says how each list is made).
+#![tactic(auto)]
+
 use libc::{STDIN_FILENO, STDOUT_FILENO};
 use words::Line;
 

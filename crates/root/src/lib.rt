@@ -1,4 +1,6 @@
 // The square root of an f32, by whole numbers: shifts, additions and comparisons, nothing else.
+#![tactic(auto)]
+
 ghost use Rattle.std.specs.Prelude.{◌≡◌, ◌+◌, ◌-◌, ◌*◌, ◌^◌, ◌≤◌, ◌<◌};
 ghost use Rattle.std.specs.Float.Ieee as Ieee;
 ghost use Rattle.std.specs.Float.{binary32};
@@ -29,7 +31,7 @@ fn isqrt(n: u64) -> u64
 }
 
 // m * 4^h, with m of 24 or 25 binary digits.
-#[derive(Drop)]
+#[derive(Clone, Copy)]
 struct Normal {
     m: u64,
     h: u64,

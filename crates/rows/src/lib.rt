@@ -1,4 +1,6 @@
 // Which rows hold a mark: none of them, or the first and the last that do. What follows the warp walks these rows and no others.
+#![tactic(auto)]
+
 ghost use Rattle.std.specs.Prelude.{◌≡◌, true, ℕ, ◌+◌, ◌*◌, ◌≤◌, ◌<◌, length};
 ghost use Rattle.lists.specs.Premises.{InRange};
 ghost use Rattle.lists.specs.Marked.{words_for};
@@ -9,14 +11,14 @@ ghost use Rattle.rows.specs.Between.{pixels_of};
 use bits::Stretch;
 
 // The rows from `first` to `last`, both among them.
-#[derive(Drop)]
+#[derive(Clone, Copy)]
 pub struct Rows {
     pub first: usize,
     pub last: usize,
 }
 
 // No row holds a mark, or these are the first and the last that do.
-#[derive(Drop)]
+#[derive(Clone, Copy)]
 pub enum MarkedRows {
     Bare,
     Span(Rows),

@@ -1,5 +1,7 @@
 // The cosine and the sine of an f32 from -2 to 2, and e^-a for a from 0 to 6, by whole numbers in units of 2^-30.
 // Each follows document 01's recurrence to the last bit; every product is at most 2^62.
+#![tactic(auto)]
+
 ghost use Rattle.std.specs.Prelude.{◌≡◌, ◌+◌, ◌*◌, ◌/◌, ◌^◌, ◌≤◌, false};
 ghost use Rattle.std.specs.Float.Ieee as Ieee;
 ghost use Rattle.std.specs.Float.{binary32};
@@ -9,7 +11,7 @@ ghost use Rattle.series.specs.Recurrence.{u_next, steps_of};
 ghost use Rattle.series.specs.Series.{divisor_of, limit_of, lowest_of, z_of, y_of, squared_of, cos_of, sin_of, exp_neg_of};
 
 // Which of the three recurrences: they differ in their divisors.
-#[derive(Drop)]
+#[derive(Clone, Copy)]
 pub enum Series {
     Cosine,
     Sine,

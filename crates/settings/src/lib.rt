@@ -2,6 +2,8 @@
 //
 // Any value of each field may be handed in; what is out of range is refused by the alignment. The sides after resizing are at
 // most 4,096, so an image has at most 2^24 pixels.
+#![tactic(auto)]
+
 ghost use Rattle.std.specs.Prelude.{◌≡◌, ◌≤◌};
 ghost use Rattle.lists.specs.Premises.{InRange};
 ghost use Rattle.floats.specs.Bound.{UpTo};
@@ -9,13 +11,13 @@ ghost use Rattle.settings.specs.Settings.{defaults_of, edge_of};
 ghost use Rattle.settings.specs.Sides.{scaled_side_of, side_of, resized_of};
 
 // The resize choice: none, or an edge length for the longer side. Length 0 means none.
-#[derive(Drop)]
+#[derive(Clone, Copy)]
 pub enum LongEdge {
     Never,
     To(usize),
 }
 
-#[derive(Drop)]
+#[derive(Clone, Copy)]
 pub struct EccConfig {
     pub eps: f32,
     pub max_iter: usize,
@@ -53,7 +55,7 @@ impl EccConfig {
     }
 }
 
-#[derive(Drop)]
+#[derive(Clone, Copy)]
 pub struct Sides {
     pub w: usize,
     pub h: usize,

@@ -2,6 +2,8 @@
 //
 // It is lent six images one after another: 0 and 1 the warped gradients, 3 and 4 the centred template and image; it leaves j0 in
 // image 5, in the rows that hold a mark. Image 2 is not looked at.
+#![tactic(auto)]
+
 ghost use Rattle.std.specs.Prelude.{◌≡◌, ◌*◌, ◌≤◌, length};
 ghost use Rattle.std.specs.Float.Ieee.{le};
 ghost use Rattle.std.specs.Float.Ieee.Scale.{finite};
@@ -20,7 +22,7 @@ use inverse::{Inverse, Matrix3, Vector3};
 use rows::{MarkedRows, Rows};
 
 // How a pass ends: with a refusal, with the passes' stop at a correlation, or with the next pose and the correlation.
-#[derive(Drop)]
+#[derive(Clone, Copy)]
 pub enum Step {
     Refuse(u8),
     Stop(f32),
@@ -28,7 +30,7 @@ pub enum Step {
 }
 
 // lambda, or that there is none to go on with.
-#[derive(Drop)]
+#[derive(Clone, Copy)]
 enum Lambda {
     Is(f32),
     Refused,

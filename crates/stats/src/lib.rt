@@ -3,6 +3,8 @@
 // The statistics are lent six images one after another: image 0 is the warped image, image 3 the template; they leave the centred
 // template in image 4 and the centred image in image 5, at the marked pixels: nobody reads the others. Images 1 and 2 are not looked at.
 // Both loops walk the pixels that all marks lie between, by stretches of marked pixels, in which no pixel is tested.
+#![tactic(auto)]
+
 ghost use Rattle.std.specs.Prelude.{◌≡◌, ◌+◌, ◌-◌, ◌*◌, ◌≤◌, length, get_or};
 ghost use Rattle.std.specs.Float.{nan};
 ghost use Rattle.lists.specs.Lists.{tab, put, image};
@@ -13,7 +15,7 @@ ghost use Rattle.bits.specs.Words.{unpacked_of};
 ghost use Rattle.rows.specs.Between.{Between};
 ghost use Rattle.stats.specs.Stats.{mean_of, Centred};
 
-#[derive(Drop)]
+#[derive(Clone, Copy)]
 pub struct Stats {
     pub tmp_norm: f32,
     pub img_norm: f32,
@@ -21,11 +23,11 @@ pub struct Stats {
 }
 
 // Of the template and of the image: the sums, then the means.
-#[derive(Drop)]
+#[derive(Clone, Copy)]
 struct Means(f32, f32);
 
 // t_ss, i_ss and corr: the sums of squares of the template and of the image, and of their products.
-#[derive(Drop)]
+#[derive(Clone, Copy)]
 struct Products(f32, f32, f32);
 
 // The sums of a stretch of pixels, each of them marked, added to those of the pixels before.

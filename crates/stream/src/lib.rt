@@ -2,6 +2,8 @@
 //
 // Any state, bytes, store, work and marks may be handed in, as long as the frame count does not run over. The bytes are those that
 // follow what earlier steps used; they may end anywhere.
+#![tactic(auto)]
+
 ghost use Rattle.std.specs.Prelude.{◌≡◌, ◌+◌, ◌≤◌, ◌<◌, length};
 ghost use Rattle.records.specs.declared.Record.TheVariants.{Frame};
 ghost use Rattle.stream.specs.Stream.{state_of, first_state, did, passed_of, over_of, act_of, step_of, StepBounds, end_of};
@@ -15,7 +17,7 @@ use records::Record;
 use settings::EccConfig;
 
 // Where the reading stands between two steps.
-#[derive(Drop)]
+#[derive(Clone, Copy)]
 pub struct State {
     // bytes of a body that are still to be read over
     pub rest: usize,
@@ -27,7 +29,7 @@ pub struct State {
 }
 
 // What comes of some bytes.
-#[derive(Drop)]
+#[derive(Clone, Copy)]
 pub enum Event {
     // More are wanted: none was used.
     More,
@@ -40,7 +42,7 @@ pub enum Event {
 }
 
 // How many bytes were used, what comes of them, and where the reading stands after them.
-#[derive(Drop)]
+#[derive(Clone, Copy)]
 pub struct Step {
     pub used: usize,
     pub event: Event,
@@ -48,7 +50,7 @@ pub struct Step {
 }
 
 // The last line, with the count of frames.
-#[derive(Drop)]
+#[derive(Clone, Copy)]
 pub enum End {
     Done(u64),
     Cut(u64),

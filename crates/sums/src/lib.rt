@@ -7,6 +7,8 @@
 // h, image_proj and template_proj are sixteen sums, four of them at a time: j0, j1, j2 and image_zm of a pixel side by side, times its j0, its
 // j1, its j2 and its template_zm. For that some pixels' four numbers are laid out in a small scratch first. docs/SPEED.md says what of this
 // form the compiler needs, and `tools/speed --check` whether it still finds it.
+#![tactic(auto)]
+
 ghost use Rattle.std.specs.Prelude.{◌≡◌, ℕ, ◌+◌, ◌-◌, ◌*◌, ◌≤◌, ◌<◌, min, length, get_or};
 ghost use Rattle.std.specs.Float.{nan};
 ghost use Rattle.std.specs.Float.Ieee.{neg};
@@ -23,11 +25,11 @@ ghost use Rattle.sums.specs.Sums.{steep_of, proj_of, hessian_of, error_of};
 use inverse::{Matrix3, Vector3};
 
 // Four numbers side by side.
-#[derive(Drop)]
+#[derive(Clone, Copy)]
 struct Four(f32, f32, f32, f32);
 
 // What is summed over the marked pixels before lambda is known.
-#[derive(Drop)]
+#[derive(Clone, Copy)]
 pub struct Sums {
     pub h: Matrix3,
     pub image_proj: Vector3,

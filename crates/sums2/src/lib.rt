@@ -5,6 +5,8 @@
 // marked ones, in which no pixel is tested.
 //
 // h[0][1] and h[1][0] are the same sum, so that seven numbers are added up before lambda is known.
+#![tactic(auto)]
+
 ghost use Rattle.std.specs.Prelude.{◌≡◌, ◌+◌, ◌-◌, ◌*◌, ◌≤◌, length, get_or};
 ghost use Rattle.std.specs.Float.{nan};
 ghost use Rattle.lists.specs.Lists.{image};
@@ -19,11 +21,11 @@ ghost use Rattle.sums2.specs.Sums.{proj2_of, hessian2_of};
 use inverse2::{Matrix2, Vector2};
 
 // The sums so far: of gx and of gy with the image, then with the template; then of gx * gx, gx * gy and gy * gy.
-#[derive(Drop)]
+#[derive(Clone, Copy)]
 struct Seven(f32, f32, f32, f32, f32, f32, f32);
 
 // What is summed over the marked pixels before lambda is known.
-#[derive(Drop)]
+#[derive(Clone, Copy)]
 pub struct Sums2 {
     pub h: Matrix2,
     pub image_proj: Vector2,

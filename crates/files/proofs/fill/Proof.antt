@@ -33,14 +33,14 @@ read-on-requires c κs = search rules
 loop-less : tie.Need-loop-smaller invariant-loop decreases-loop
 loop-less c =
     let l = c.before.before.before.before.before.before.loop in
-    let r = c.before.before.read-on in
+    let r = c.before.before.read_on in
     let k : length r.new.1.1.0 ≡ length l.buf = search rules in
     rw k (nearer (length l.buf) l.invariant.1 r.ensures.0 (not-true _ c.before.before.before.before.if1.true))
 
 loop-again : tie.Need-loop-preserved invariant-loop decreases-loop
 loop-again c =
     let l = c.before.before.before.before.before.before.loop in
-    let r = c.before.before.read-on in
+    let r = c.before.before.read_on in
     let k : length r.new.1.1.0 ≡ length l.buf = search rules in
     (rw k (one_more l.invariant.0 (not-true _ c.before.before.before.before.if1.true) r.ensures.0), rw k (stays_within (length l.buf) l.invariant.1 r.ensures.0), k ∙ l.invariant.2)
 

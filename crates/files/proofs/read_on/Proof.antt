@@ -36,10 +36,10 @@ moved c =
     let n = a.held.count in
     let xs = a.buf.now in
     let e : length (take (length xs - n) (drop n xs)) ≡ length xs - n = length-take-le (length xs - n) (drop n xs) (omega (arith, length-drop n xs)) in
-    subst (λ (m : ℕ). Moved m (to_z w64 (of_z w64 c.read.result))) e (subst (Moved (length (take (length xs - n) (drop n xs)))) (sym (to_z-of_z w64 c.read.result (record { sfits = c.read.type-inv }))) c.read.ensures)
+    subst (λ (m : ℕ). Moved m (to_z w64 (of_z w64 c.read.result))) e (subst (Moved (length (take (length xs - n) (drop n xs)))) (sym (to_z-of_z w64 c.read.result (record { sfits = c.read.type_inv }))) c.read.ensures)
 
 after-read-requires : tie.Need-after-read-requires
-after-read-requires c κs = (moved c.before.before, omega (arith, c.before.before.before.before.before.well-formed))
+after-read-requires c κs = (moved c.before.before, omega (arith, c.before.before.before.before.before.well_formed))
 
 same_length : tie.Need-same-length
 same_length c = search rules

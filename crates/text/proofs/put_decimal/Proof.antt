@@ -17,7 +17,7 @@ same_length c = search rules
 returns : tie.Need-returns
 returns c =
     let a = c.before.before.before.before.before.before.before.before.before in
-    then_wrote c.before.before.before.before.before.before.put-digits.ensures c.before.before.put_byte.ensures (omega (arith, a.requires))
+    then_wrote c.before.before.before.before.before.before.put_digits.ensures c.before.before.put_byte.ensures (omega (arith, a.requires))
 
 pub put-decimal-spec : {M : Type 1} → statement M
 put-decimal-spec = tie.close (tie.spec put-digits-requires put-byte-requires same_length returns)

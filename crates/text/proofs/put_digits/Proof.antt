@@ -34,7 +34,7 @@ returns : tie.Need-returns
 returns c =
     let a = c.before.before.before.before.before.before.before.before in
     let d = c.before.before.before.before.before.decimal in
-    let p = c.before.before.put-bytes in
+    let p = c.before.before.put_bytes in
     let t : take d.result d.new.1.0 ≡ decimal_of a.args.n = d.ensures.1.1 ∙ decimal_is a.args.n d.result d.ensures.1.0 in
     record {
       next = p.ensures.next ∙ ap (λ (l : List ℕ). a.args.at + length l) t;

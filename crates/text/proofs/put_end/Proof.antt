@@ -23,7 +23,7 @@ same_length c = search rules
 returns : tie.Need-returns
 returns c =
     let a = c.before.before.before.before.before.before.before.before.before.before.before in
-    let w = then_wrote c.before.before.before.before.before.before.put-bytes.ensures c.before.before.put-decimal.ensures (omega (arith, a.requires)) in
+    let w = then_wrote c.before.before.before.before.before.before.put_bytes.ensures c.before.before.put_decimal.ensures (omega (arith, a.requires)) in
     wrote_as w (done_pieces a.args.frames ∙ ap (λ (b : Bool). end_line b a.args.frames) (sym c.before.before.before.before.before.before.before.before.before.if1.true)) (omega (arith, w.bound))
 
 slice-aggregate-put-bytes-2 : tie.Need-slice-aggregate-put-bytes-2
@@ -41,7 +41,7 @@ same-length-2 c = search rules
 returns-2 : tie.Need-returns-2
 returns-2 c =
     let a = c.before.before.before.before.before.before.before.before.before.before.before in
-    let w = then_wrote c.before.before.before.before.before.before.put-bytes2.ensures c.before.before.put-decimal2.ensures (omega (arith, a.requires)) in
+    let w = then_wrote c.before.before.before.before.before.before.put_bytes2.ensures c.before.before.put_decimal2.ensures (omega (arith, a.requires)) in
     wrote_as w (cut_pieces a.args.frames ∙ ap (λ (b : Bool). end_line b a.args.frames) (sym c.before.before.before.before.before.before.before.before.before.if1.false)) (omega (arith, w.bound))
 
 pub put-end-spec : {M : Type 1} → statement M

@@ -32,11 +32,11 @@ returns : tie.Need-returns
 returns c =
     let a = c.before.before.before.before.before.before.before.before.before.before.before.before.before.before.before.before.before.before.before.before.before.before.before.before.before in
     let g = a.args in
-    let x = rw (to_z-of_z w16 g.dx a.ranges.dx) at c.before.before.before.before.before.before.before.before.before.before.put-signed.ensures in
-    let y = rw (to_z-of_z w16 g.dy a.ranges.dy) at c.before.before.before.before.before.before.put-signed2.ensures in
-    let t = rw (to_z-of_z w16 g.turn a.ranges.turn) at c.before.before.put-signed3.ensures in
-    let w1 = then_wrote c.before.before.before.before.before.before.before.before.before.before.before.before.before.before.before.before.before.before.before.before.before.before.put-decimal.ensures c.before.before.before.before.before.before.before.before.before.before.before.before.before.before.before.before.before.before.put-decimal2.ensures (omega (arith, a.requires)) in
-    let w2 = then_wrote w1 c.before.before.before.before.before.before.before.before.before.before.before.before.before.before.put-decimal3.ensures (omega (arith, a.requires)) in
+    let x = rw (to_z-of_z w16 g.dx a.ranges.dx) at c.before.before.before.before.before.before.before.before.before.before.put_signed.ensures in
+    let y = rw (to_z-of_z w16 g.dy a.ranges.dy) at c.before.before.before.before.before.before.put_signed2.ensures in
+    let t = rw (to_z-of_z w16 g.turn a.ranges.turn) at c.before.before.put_signed3.ensures in
+    let w1 = then_wrote c.before.before.before.before.before.before.before.before.before.before.before.before.before.before.before.before.before.before.before.before.before.before.put_decimal.ensures c.before.before.before.before.before.before.before.before.before.before.before.before.before.before.before.before.before.before.put_decimal2.ensures (omega (arith, a.requires)) in
+    let w2 = then_wrote w1 c.before.before.before.before.before.before.before.before.before.before.before.before.before.before.put_decimal3.ensures (omega (arith, a.requires)) in
     let w3 = then_wrote w2 x (omega (arith, a.requires)) in
     let w4 = then_wrote w3 y (omega (arith, a.requires)) in
     let w5 = then_wrote w4 t (omega (arith, a.requires)) in

@@ -34,7 +34,7 @@ returns c =
     let z : k ≡ distance_of n = rw (to_z-of_z w16 n a.ranges.n) at s.ensures.0 in
     let e : signed_of n ≡ 45 ∷ decimal_of k = signed_below n (rw (to_z-of_z w16 n a.ranges.n) at c.before.before.before.before.before.before.before.before.if1.true) ∙ ap (λ (m : ℕ). 45 ∷ decimal_of m) (sym z) in
     let short : length (ended (decimal_of k) a.args.end) ≤ 6 = omega (arith, few 4 k (omega (arith, s.ensures.1)), length_ended (decimal_of k) a.args.end) in
-    let w = then_wrote c.before.before.before.before.before.before.put_byte.ensures (wrote_as c.before.before.put-decimal.ensures refl short) (omega (arith, a.requires)) in
+    let w = then_wrote c.before.before.before.before.before.before.put_byte.ensures (wrote_as c.before.before.put_decimal.ensures refl short) (omega (arith, a.requires)) in
     wrote_as w (sym (ap (λ (l : List ℕ). ended l a.args.end) e)) w.bound
 
 put-decimal-requires-2 : tie.Need-put-decimal-requires-2
@@ -52,7 +52,7 @@ returns-2 c =
     let z : k ≡ distance_of n = rw (to_z-of_z w16 n a.ranges.n) at s.ensures.0 in
     let e : signed_of n ≡ decimal_of k = signed_above n (rw (to_z-of_z w16 n a.ranges.n) at c.before.before.before.before.if1.false) ∙ ap decimal_of (sym z) in
     let short : length (ended (decimal_of k) a.args.end) ≤ 7 = omega (arith, few 4 k (omega (arith, s.ensures.1)), length_ended (decimal_of k) a.args.end) in
-    wrote_as c.before.before.put-decimal2.ensures (sym (ap (λ (l : List ℕ). ended l a.args.end) e)) short
+    wrote_as c.before.before.put_decimal2.ensures (sym (ap (λ (l : List ℕ). ended l a.args.end) e)) short
 
 pub put-signed-spec : {M : Type 1} → statement M
 put-signed-spec =
