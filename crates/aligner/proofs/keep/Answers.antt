@@ -1,0 +1,22 @@
+-- `aligner::keep` meets its contract. The loop's invariant: the first i bytes of the frame stand at the store's front. Assumes nothing.
+use mathlib.Core.Path.{◌≡◌, refl, ◌∙◌}
+use Prim.Native.Nat.{◌-◌, ◌≤◌}
+use native.Mathlib.Omega.{arith}
+use borrow.Author.Rules.{rules}
+use lib.ListN.{length, take, length-set}
+use Rattle.lists.specs.Lists.{put}
+use Rattle.lists.proofs.Copy.{copy_none, copy_more, copy_all}
+use Rattle.aligner.proofs.keep.Goals as goal
+
+pub loop-i-init : goal.loop-i-init
+loop-i-init c = (search rules, refl, copy_none _ c.args.frame.now)
+
+pub loop-i-preserved : goal.loop-i-preserved
+loop-i-preserved c =
+    let a = c.args in
+    (omega arith, simp length-set c.loop-i.invariant.1, rw c.loop-i.invariant.2 (copy_more a.store.now a.frame.now c.loop-i.i 0 (omega arith) (omega arith)))
+
+pub returns : goal.returns
+returns c =
+    let end : c.loop-i.i ≡ length c.args.frame.now = omega arith in
+    c.loop-i.invariant.2 ∙ copy_all _ _ _ end

@@ -1,0 +1,47 @@
+-- `alignment::find_transform_ecc_euclidean` meets its contract: a check that fails ends the call with its number; past the checks the call is `align`'s. Assumes nothing.
+use Prim.Native.Nat.{ℕ, ◌*◌}
+use mathlib.Core.Path.{sym, ap, ◌∙◌}
+use borrow.Author.Rules.{rules}
+use borrow.Author.Tests.{eq-eqb, ne_eqb}
+use Rattle.lists.specs.Lists.{tab, put}
+use Rattle.lists.specs.Marked.{words_for}
+use Rattle.lists.proofs.Cases.{pick_true, pick_false}
+use Rattle.floats.specs.F32.{0f}
+use Rattle.settings.specs.Sides.{resized_of}
+use Rattle.settings.specs.declared.Sides.{Sides}
+use Rattle.checks.proofs.Past.{past, size_is}
+use Rattle.pose.specs.declared.Answer.TheVariants.{Refused}
+use Rattle.alignment.specs.Aligned.{run_of, aligned_of, work_after, marks_after}
+use Rattle.alignment.proofs.find_transform_ecc_euclidean.Goals as goal
+
+pub returns-then-number-ne0 : goal.returns-then-number-ne0
+unfolding aligned_of work_after marks_after
+returns-then-number-ne0 c =
+    let number = c.check-number.ensures in
+    let no = ne_eqb _ 0 (λ e. c.if-number-ne0.true (number ∙ e)) in
+    record { value = ap (λ (k : ℕ). record { passes = 0; answer = Refused k }) number ∙ sym (pick_false _ _ _ no); fact = (sym (pick_false _ _ _ no), sym (pick_false _ _ _ no)) }
+
+pub resized-s-requires : goal.resized-s-requires
+resized-s-requires c = (past _ _ _ _ _ _ _ (sym c.check-number.ensures ∙ c.if-number-ne0.false)).sides
+
+pub align-requires : goal.align-requires
+align-requires c =
+    let e = c.resized-s.ensures in
+    let p = past _ _ _ _ _ _ _ (sym c.check-number.ensures ∙ c.if-number-ne0.false) in
+    let n = size_is _ _ _ _ _ e.0 c.edge.ensures in
+    (p.sides, e.1, p.template_fits, p.input_fits, record { images = rw n p.work_fits; places = rw n p.marks_fit }, p.filter, p.passes_most)
+
+pub returns : goal.returns
+unfolding aligned_of work_after marks_after
+returns c =
+    let zero = sym c.check-number.ensures ∙ c.if-number-ne0.false in
+    let yes = eq-eqb _ 0 zero in
+    let a = c.args in
+    let sides = c.resized-s.ensures.0 ∙ ap (λ (k : ℕ). resized_of k a.w a.h) c.edge.ensures in
+    let n = size_is a.cfg a.w a.h _ _ c.resized-s.ensures.0 c.edge.ensures in record {
+      value = c.align.ensures.value ∙ ap (λ (s : Sides). run_of a.template.now a.input.now a.w a.h s.w s.h a.cfg) sides ∙ sym (pick_true _ _ _ yes);
+      fact = (
+        c.align.ensures.work_after.0 ∙ ap (λ (n : ℕ). put a.work.now 0 (tab (12 * n) (λ _. 0f))) n ∙ sym (pick_true _ _ _ yes),
+        c.align.ensures.work_after.1 ∙ ap (λ (n : ℕ). put a.marks.now 0 (tab (words_for n) (λ _. 0))) n ∙ sym (pick_true _ _ _ yes),
+      );
+    }

@@ -1,0 +1,25 @@
+-- `runs::run` meets its contract: at the loop's head k passes are done, the run is going on, and what passes keep is kept. Assumes nothing.
+use Prim.Native.Nat.{◌+◌, ◌*◌, ◌≤◌, ◌-◌}
+use mathlib.Core.Path.{◌≡◌, sym, ap, ◌∙◌}
+use native.Mathlib.Omega.{arith}
+use borrow.Author.Rules.{rules}
+use lib.Dec.{lit≤}
+use lib.Ieee.{of_bits}
+use Rattle.lists.specs.Lists.{image}
+use Rattle.floats.specs.Bound.{Within}
+use Rattle.pass.specs.Pass.{pass_of}
+use Rattle.pass.specs.Kept.{Kept, KeptMarks}
+use Rattle.pass.proofs.Stays.{kept_kept}
+use Rattle.pose.specs.declared.Answer.{Answer}
+use Rattle.runs.specs.Runs.{after, going, start}
+use Rattle.runs.proofs.Moves.{move_within, pass_kept}
+use Rattle.runs.proofs.Stays.{kept_none, marks_none, marks_kept}
+use Rattle.runs.proofs.Ends.{started, passed, moving, refusing, stopping}
+use Rattle.runs.proofs.run.Given as goal
+
+abbrev pub invariant-loop-k : goal.invariant-loop-k
+invariant-loop-k l = (l.k ≤ l.max_iter) × (after (pass_of (image (l.w * l.h) 8 l.initial.work) (image (l.w * l.h) 2 l.initial.work) (image (l.w * l.h) 3 l.initial.work) (image (l.w * l.h) 4 l.initial.work) l.w l.h l.eps) l.k ≡ going l.k l.at l.rho l.last) × Within l.at.theta 2 1
+    × Kept (l.w * l.h) l.initial.work l.work × KeptMarks (l.w * l.h) l.initial.marks l.marks
+
+abbrev pub decreases-loop-k : goal.decreases-loop-k
+decreases-loop-k l = l.max_iter - l.k
