@@ -1,6 +1,8 @@
 // The program's lines, put into a lent slice. Each function answers the index after what it put.
 //
 // These are inner parts: the caller sees to it that there is room.
+#![tactic(auto)]
+
 ghost use Rattle.std.specs.Prelude.{◌≡◌, [], ◌∷◌, ◌++◌, ◌+◌, ◌≤◌, length};
 ghost use Rattle.text.specs.Text.{decimal_of, distance_of, signed_of, frame_line, end_line, Wrote};
 
