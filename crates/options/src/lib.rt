@@ -13,7 +13,7 @@ pub enum Value {
 }
 
 // The numbers of a settings record, as its fields hold them: the bits of eps, max_iter, the filter's size and the edge, 0 for none.
-#[derive(Drop)]
+#[derive(Clone, Copy)]
 pub struct Options {
     pub eps: usize,
     pub passes: usize,
