@@ -14,7 +14,7 @@ use pose::{Answer, Outcome};
 use settings::EccConfig;
 
 // The settings; whether a frame is remembered, and its sides.
-#[derive(Drop)]
+#[derive(Clone, Copy)]
 pub struct EccAligner {
     pub cfg: EccConfig,
     pub held: bool,
@@ -23,7 +23,7 @@ pub struct EccAligner {
 }
 
 // The aligner after a frame, and the answer.
-#[derive(Drop)]
+#[derive(Clone, Copy)]
 pub struct Reply {
     pub aligner: EccAligner,
     pub outcome: Outcome,

@@ -7,7 +7,7 @@ ghost use Rattle.bits.specs.Packing.{flag_of, Flags, total_of, Packed};
 ghost use Rattle.bits.specs.Stretches.{FirstOther, StretchOf};
 
 // The pixels from `from` on, before `to`.
-#[derive(Drop)]
+#[derive(Clone, Copy)]
 pub struct Stretch {
     pub from: usize,
     pub to: usize,

@@ -9,7 +9,7 @@ ghost use Rattle.lists.specs.Lists.{tab, put};
 ghost use Rattle.blends.specs.Reads.{four_at, ThreeOf, breaks_of, Placed, Taken};
 
 // A pixel of the three warped images.
-#[derive(Drop)]
+#[derive(Clone, Copy)]
 struct Three(f32, f32, f32);
 
 // A place as a usize.

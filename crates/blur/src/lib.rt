@@ -55,7 +55,7 @@ fn add_right(part: &mut [f32], dst: usize, src: usize, w: usize, n: usize, weigh
 }
 
 // Which way a pass goes: along the rows or down the columns.
-#[derive(Drop)]
+#[derive(Clone, Copy)]
 enum Along {
     Rows,
     Columns,

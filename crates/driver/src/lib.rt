@@ -8,7 +8,7 @@ ghost use Rattle.driver.specs.Pins.{pin_of, still_of, finite_of, posed_of, pins_
 
 use pose::Answer;
 
-#[derive(Drop)]
+#[derive(Clone, Copy)]
 pub struct Pins {
     pub dx: i16,
     pub dy: i16,

@@ -3,10 +3,10 @@
 ghost use Rattle.std.specs.Prelude.{◌≡◌};
 ghost use Rattle.inverse.specs.Inverse.{rows_over_of, inverse_of, times_of, dot_of};
 
-#[derive(Drop)]
+#[derive(Clone, Copy)]
 pub struct Vector3(pub f32, pub f32, pub f32);
 
-#[derive(Drop)]
+#[derive(Clone, Copy)]
 pub struct Matrix3 {
     pub m00: f32,
     pub m01: f32,
@@ -19,7 +19,7 @@ pub struct Matrix3 {
     pub m22: f32,
 }
 
-#[derive(Drop)]
+#[derive(Clone, Copy)]
 pub enum Inverse {
     Exists(Matrix3),
     Missing,

@@ -3,10 +3,10 @@
 ghost use Rattle.std.specs.Prelude.{◌≡◌};
 ghost use Rattle.inverse2.specs.Inverse.{inverse2_of, times2_of, dot2_of};
 
-#[derive(Drop)]
+#[derive(Clone, Copy)]
 pub struct Vector2(pub f32, pub f32);
 
-#[derive(Drop)]
+#[derive(Clone, Copy)]
 pub struct Matrix2 {
     pub m00: f32,
     pub m01: f32,
@@ -14,7 +14,7 @@ pub struct Matrix2 {
     pub m11: f32,
 }
 
-#[derive(Drop)]
+#[derive(Clone, Copy)]
 pub enum Inverse2 {
     Exists(Matrix2),
     Missing,

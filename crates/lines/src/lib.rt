@@ -5,7 +5,7 @@ ghost use Rattle.lines.specs.Lines.{line_of};
 use pose::Outcome;
 
 // What is printed of a frame.
-#[derive(Drop)]
+#[derive(Clone, Copy)]
 pub struct Line {
     pub position: u64,
     pub number: u8,

@@ -10,7 +10,7 @@ ghost use Rattle.middle.specs.Wide.{wide_of, lower_of, Tidy, pattern_share};
 ghost use Rattle.middle.specs.Motion.{motion_of};
 
 // A whole number in three digits: (high * 2^60 + mid) * 2^60 + low.
-#[derive(Drop)]
+#[derive(Clone, Copy)]
 struct Wide {
     high: u64,
     mid: u64,

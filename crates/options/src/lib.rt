@@ -6,7 +6,7 @@ ghost use Rattle.options.specs.Words.{begins as Words·begins, whole_of, ratio_o
 use settings::EccConfig;
 
 // A number, or why there is none, by the table of specs/Words.antt.
-#[derive(Drop)]
+#[derive(Clone, Copy)]
 pub enum Value {
     Is(usize),
     Wrong(u8),
@@ -22,7 +22,7 @@ pub struct Options {
 }
 
 // What a word is: settings that were changed, a picture's name, or neither, and why, by the same table.
-#[derive(Drop)]
+#[derive(Clone, Copy)]
 pub enum Taken {
     Settings(Options),
     Picture,

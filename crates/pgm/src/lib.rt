@@ -9,14 +9,14 @@ ghost use Rattle.pgm.specs.Frame.{pixel_at, gray_pixels_of, fault_of, made_of, r
 use scan::Digits;
 
 // A number and the index after it, or none.
-#[derive(Drop)]
+#[derive(Clone, Copy)]
 pub enum Found {
     Number(Digits),
     Nothing,
 }
 
 // What stands before the pixels, which begin at index at; or why this is no picture.
-#[derive(Drop)]
+#[derive(Clone, Copy)]
 pub enum Header {
     Good {
         is_plain: bool,
@@ -29,7 +29,7 @@ pub enum Header {
 }
 
 // A frame record of so many bytes, or why there is none.
-#[derive(Drop)]
+#[derive(Clone, Copy)]
 pub enum Made {
     Size(usize),
     Refused(u8),

@@ -13,7 +13,7 @@ ghost use Rattle.places.specs.Point.{sx_of, sy_of, inside};
 ghost use Rattle.places.specs.Places.{PlaceOf, PlacesOf};
 
 // The source of a pixel: where the top left of its four pixels lies, the weights of the right and of the lower ones, and its flag.
-#[derive(Drop)]
+#[derive(Clone, Copy)]
 struct Place {
     at: u32,
     across: f32,

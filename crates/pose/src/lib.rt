@@ -6,7 +6,7 @@ ghost use Rattle.pose.specs.Pose.{affine_from_theta_tx_ty, unscaled_of, identity
 use inverse::Matrix3;
 
 // The running pose.
-#[derive(Drop)]
+#[derive(Clone, Copy)]
 pub struct Pose {
     pub theta: f32,
     pub tx: f32,
@@ -14,7 +14,7 @@ pub struct Pose {
 }
 
 // The first two rows of a pose's matrix, by which the warp goes.
-#[derive(Drop)]
+#[derive(Clone, Copy)]
 pub struct Map {
     pub m00: f32,
     pub m01: f32,
@@ -25,7 +25,7 @@ pub struct Map {
 }
 
 // How a call ends: a pose with its correlation, or a refusal number of document 01's table.
-#[derive(Drop)]
+#[derive(Clone, Copy)]
 pub enum Answer {
     Posed {
         theta: f32,
@@ -37,7 +37,7 @@ pub enum Answer {
 }
 
 // An answer with the number of warps done.
-#[derive(Drop)]
+#[derive(Clone, Copy)]
 pub struct Outcome {
     pub passes: usize,
     pub answer: Answer,

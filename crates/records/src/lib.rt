@@ -8,7 +8,7 @@ ghost use Rattle.records.specs.Reading.{half_at, word_at, choice_of, config_at, 
 use settings::{EccConfig, LongEdge};
 
 // What stands at the start of some bytes.
-#[derive(Drop)]
+#[derive(Clone, Copy)]
 pub enum Record {
     // Too few bytes are at hand to say.
     More,

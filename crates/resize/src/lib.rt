@@ -8,7 +8,7 @@ ghost use Rattle.resize.specs.Resize.{place_of, tap_of, byte_of, lerp_of, biline
 ghost use Rattle.resize.specs.Taps.{Taps};
 
 // Two indices of a side, and the weight of the second.
-#[derive(Drop)]
+#[derive(Clone, Copy)]
 pub struct Tap {
     pub first: usize,
     pub next: usize,

@@ -29,7 +29,7 @@ fn isqrt(n: u64) -> u64
 }
 
 // m * 4^h, with m of 24 or 25 binary digits.
-#[derive(Drop)]
+#[derive(Clone, Copy)]
 struct Normal {
     m: u64,
     h: u64,

@@ -9,14 +9,14 @@ ghost use Rattle.rows.specs.Between.{pixels_of};
 use bits::Stretch;
 
 // The rows from `first` to `last`, both among them.
-#[derive(Drop)]
+#[derive(Clone, Copy)]
 pub struct Rows {
     pub first: usize,
     pub last: usize,
 }
 
 // No row holds a mark, or these are the first and the last that do.
-#[derive(Drop)]
+#[derive(Clone, Copy)]
 pub enum MarkedRows {
     Bare,
     Span(Rows),

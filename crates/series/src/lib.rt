@@ -9,7 +9,7 @@ ghost use Rattle.series.specs.Recurrence.{u_next, steps_of};
 ghost use Rattle.series.specs.Series.{divisor_of, limit_of, lowest_of, z_of, y_of, squared_of, cos_of, sin_of, exp_neg_of};
 
 // Which of the three recurrences: they differ in their divisors.
-#[derive(Drop)]
+#[derive(Clone, Copy)]
 pub enum Series {
     Cosine,
     Sine,

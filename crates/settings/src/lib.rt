@@ -9,13 +9,13 @@ ghost use Rattle.settings.specs.Settings.{defaults_of, edge_of};
 ghost use Rattle.settings.specs.Sides.{scaled_side_of, side_of, resized_of};
 
 // The resize choice: none, or an edge length for the longer side. Length 0 means none.
-#[derive(Drop)]
+#[derive(Clone, Copy)]
 pub enum LongEdge {
     Never,
     To(usize),
 }
 
-#[derive(Drop)]
+#[derive(Clone, Copy)]
 pub struct EccConfig {
     pub eps: f32,
     pub max_iter: usize,
@@ -53,7 +53,7 @@ impl EccConfig {
     }
 }
 
-#[derive(Drop)]
+#[derive(Clone, Copy)]
 pub struct Sides {
     pub w: usize,
     pub h: usize,

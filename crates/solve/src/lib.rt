@@ -20,7 +20,7 @@ use inverse::{Inverse, Matrix3, Vector3};
 use rows::{MarkedRows, Rows};
 
 // How a pass ends: with a refusal, with the passes' stop at a correlation, or with the next pose and the correlation.
-#[derive(Drop)]
+#[derive(Clone, Copy)]
 pub enum Step {
     Refuse(u8),
     Stop(f32),
@@ -28,7 +28,7 @@ pub enum Step {
 }
 
 // lambda, or that there is none to go on with.
-#[derive(Drop)]
+#[derive(Clone, Copy)]
 enum Lambda {
     Is(f32),
     Refused,

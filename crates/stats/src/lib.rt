@@ -13,7 +13,7 @@ ghost use Rattle.bits.specs.Words.{unpacked_of};
 ghost use Rattle.rows.specs.Between.{Between};
 ghost use Rattle.stats.specs.Stats.{mean_of, Centred};
 
-#[derive(Drop)]
+#[derive(Clone, Copy)]
 pub struct Stats {
     pub tmp_norm: f32,
     pub img_norm: f32,
@@ -21,11 +21,11 @@ pub struct Stats {
 }
 
 // Of the template and of the image: the sums, then the means.
-#[derive(Drop)]
+#[derive(Clone, Copy)]
 struct Means(f32, f32);
 
 // t_ss, i_ss and corr: the sums of squares of the template and of the image, and of their products.
-#[derive(Drop)]
+#[derive(Clone, Copy)]
 struct Products(f32, f32, f32);
 
 // The sums of a stretch of pixels, each of them marked, added to those of the pixels before.

@@ -15,7 +15,7 @@ use records::Record;
 use settings::EccConfig;
 
 // Where the reading stands between two steps.
-#[derive(Drop)]
+#[derive(Clone, Copy)]
 pub struct State {
     // bytes of a body that are still to be read over
     pub rest: usize,
@@ -27,7 +27,7 @@ pub struct State {
 }
 
 // What comes of some bytes.
-#[derive(Drop)]
+#[derive(Clone, Copy)]
 pub enum Event {
     // More are wanted: none was used.
     More,
@@ -40,7 +40,7 @@ pub enum Event {
 }
 
 // How many bytes were used, what comes of them, and where the reading stands after them.
-#[derive(Drop)]
+#[derive(Clone, Copy)]
 pub struct Step {
     pub used: usize,
     pub event: Event,
@@ -48,7 +48,7 @@ pub struct Step {
 }
 
 // The last line, with the count of frames.
-#[derive(Drop)]
+#[derive(Clone, Copy)]
 pub enum End {
     Done(u64),
     Cut(u64),

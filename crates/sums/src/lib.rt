@@ -23,11 +23,11 @@ ghost use Rattle.sums.specs.Sums.{steep_of, proj_of, hessian_of, error_of};
 use inverse::{Matrix3, Vector3};
 
 // Four numbers side by side.
-#[derive(Drop)]
+#[derive(Clone, Copy)]
 struct Four(f32, f32, f32, f32);
 
 // What is summed over the marked pixels before lambda is known.
-#[derive(Drop)]
+#[derive(Clone, Copy)]
 pub struct Sums {
     pub h: Matrix3,
     pub image_proj: Vector3,

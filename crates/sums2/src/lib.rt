@@ -19,11 +19,11 @@ ghost use Rattle.sums2.specs.Sums.{proj2_of, hessian2_of};
 use inverse2::{Matrix2, Vector2};
 
 // The sums so far: of gx and of gy with the image, then with the template; then of gx * gx, gx * gy and gy * gy.
-#[derive(Drop)]
+#[derive(Clone, Copy)]
 struct Seven(f32, f32, f32, f32, f32, f32, f32);
 
 // What is summed over the marked pixels before lambda is known.
-#[derive(Drop)]
+#[derive(Clone, Copy)]
 pub struct Sums2 {
     pub h: Matrix2,
     pub image_proj: Vector2,

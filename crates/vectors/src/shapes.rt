@@ -16,7 +16,7 @@ pub fn side(words: &[u64], i: usize) -> usize
 }
 
 // An image's sides and pixels, within the local arrays; where the words are no such sides, a single pixel and `ok` false.
-#[derive(Drop)]
+#[derive(Clone, Copy)]
 pub struct Shape {
     pub w: usize,
     pub h: usize,

@@ -6,7 +6,7 @@ ghost use Rattle.verdict.specs.Verdict.{stops, verdict_of};
 
 use stats::Stats;
 
-#[derive(Drop)]
+#[derive(Clone, Copy)]
 pub enum Verdict {
     Bad(u8),
     // The correlation, in both.

@@ -15,7 +15,7 @@ ghost use Rattle.blends.specs.Reads.{three_rows};
 ghost use Rattle.warp.specs.Rows.{read_of, Reach, Holding, WarpedThrough};
 
 // What the warp has marked: how many pixels, and the first and the last row that hold one.
-#[derive(Drop)]
+#[derive(Clone, Copy)]
 pub struct Found {
     pub count: usize,
     pub rows: rows::MarkedRows,

@@ -3,7 +3,7 @@ ghost use Rattle.std.specs.Prelude.{◌≡◌, ◌<◌, length};
 ghost use Rattle.words.specs.Reading.{digit_of, no_word, closed_of, closed_in, line_after, words_after};
 
 // The words so far are the first `count` of the lent slice. `value` is the word that is being read, if `open`.
-#[derive(Drop)]
+#[derive(Clone, Copy)]
 pub struct Line {
     pub count: usize,
     pub value: u64,
