@@ -9,3 +9,4 @@
 //   Taylor      those series are Taylor's; the square that the recurrences start from
 //   Near        the distance after rounding to f32
 //   Below       from 15/8 on the sine is below 1
+#![tactic(auto)]

@@ -3,6 +3,8 @@
 //
 // Any record, store, frame, sides, work and marks may be handed in. The first checks (2, length, 13) leave record and store as they
 // were. After them the frame becomes the previous one, whatever the answer.
+#![tactic(auto)]
+
 ghost use Rattle.std.specs.Prelude.{◌≡◌, ◌*◌, ◌≤◌, length};
 ghost use Rattle.lists.specs.Lists.{put};
 ghost use Rattle.checks.specs.Checks.{size_of};

@@ -3,6 +3,8 @@
 //
 // Where a check fails (numbers 1 to 4) work and marks stay as they were; else the first 12n floats are +0 afterwards and the words that n
 // marks need are 0, n the number of pixels after resizing, and the rest stays.
+#![tactic(auto)]
+
 ghost use Rattle.std.specs.Prelude.{◌≡◌, ◌*◌, ◌≤◌, length};
 ghost use Rattle.lists.specs.Lists.{tab, put};
 ghost use Rattle.lists.specs.Marked.{words_for};

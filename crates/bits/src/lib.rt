@@ -1,5 +1,7 @@
 // Marks in words: sixty-four to a word, pixel i in bit i mod 64 of word i div 64. Here they are packed, counted, and searched for the next
 // stretch of marked pixels. What is above knows of stretches alone, and of no shift.
+#![tactic(auto)]
+
 ghost use Rattle.std.specs.Prelude.{◌≡◌, ℕ, ◌+◌, ◌-◌, ◌*◌, ◌/◌, ◌%◌, ◌^◌, ◌≤◌, ◌<◌, eqb, length};
 ghost use Rattle.lists.specs.Marked.{pick};
 ghost use Rattle.bits.specs.Words.{bit_at, ones_of};

@@ -3,6 +3,8 @@
 // It is lent six images one after another: 0 to 2 are read, 3 to 5 written. Where the places of some pixels follow one another, as they do in
 // most of a row that is turned by little, so do the pixels that are read: such a run is worked out one image after the other, in a loop that
 // the compiler takes several pixels at a time. Elsewhere each pixel is read by its own place.
+#![tactic(auto)]
+
 ghost use Rattle.std.specs.Prelude.{◌≡◌, ℕ, ◌+◌, ◌-◌, ◌*◌, ◌≤◌, ◌<◌, length, get_or};
 ghost use Rattle.std.specs.Float.{nan};
 ghost use Rattle.lists.specs.Lists.{tab, put};

@@ -3,6 +3,8 @@
 // The blur is lent three images one after another: it reads the first, leaves the pass along the rows in the second and the blurred
 // image in the third. Edge pixels are repeated. Each pixel's products are added in the kernel's order, from +0, each operation
 // rounded once; the loop over a row's pixels is the innermost, so that the compiler can take several pixels at once.
+#![tactic(auto)]
+
 ghost use Rattle.std.specs.Prelude.{◌≡◌, ◌+◌, ◌-◌, ◌*◌, ◌%◌, ◌≤◌, ◌<◌, min, length, take};
 ghost use Rattle.lists.specs.Lists.{tab, put, image, set_image};
 ghost use Rattle.lists.specs.Premises.{InRange, OddFilter};

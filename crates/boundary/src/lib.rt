@@ -2,6 +2,8 @@
 // lent slices. Inner parts of the library, whose functions are in crate quayhollow.
 //
 // A slice that is too short for what is to stand at its front stays as it was.
+#![tactic(auto)]
+
 ghost use Rattle.std.specs.Prelude.{◌≡◌, [], ◌∷◌, ◌≤◌};
 ghost use Rattle.inverse.specs.Inverse.{entries_of};
 ghost use Rattle.boundary.specs.Boundary.{config_of, pixel_count_of, fronted, code_of, pose_of, handed_of, three_of};

@@ -1,5 +1,7 @@
 // Whether a whole call of the alignment gives the answer that a vector has, and leaves work and marks as it says; and whether the driver
 // numbers are those of a vector. tools/vectors/calls.rs and pins.rs say how a line is made. A vector that is not well formed does not agree.
+#![tactic(auto)]
+
 ghost use Rattle.std.specs.Prelude.{◌≡◌, ◌+◌, ◌≤◌, leb, ltb, length};
 ghost use Rattle.lists.specs.Lists.{tab};
 ghost use Rattle.lists.specs.Marked.{pick};

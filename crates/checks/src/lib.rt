@@ -1,4 +1,6 @@
 // The alignment's own checks of sides, lengths, settings and room, in document 01's order. Any numbers may be handed in.
+#![tactic(auto)]
+
 ghost use Rattle.std.specs.Prelude.{◌≡◌, ◌≤◌};
 ghost use Rattle.lists.specs.Premises.{InRange};
 ghost use Rattle.checks.specs.Checks.{size_of, room_of, limits_of, check_of};

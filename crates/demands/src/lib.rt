@@ -11,3 +11,4 @@
 //   Bits     a prepared pixel is told by its bits
 //   Bytes    templates' bytes, where no side changes and the filter is 1
 //   Demands  the statements
+#![tactic(auto)]

@@ -1,6 +1,8 @@
 // The numbers for the pins: how far an answer moves the middle of the frame, in 1/256 pixel, and its turn in 1/8192 radian, as whole numbers.
 //
 // Any answer and any sides may be handed in. A refusal gives 0, 0, 0, and so does a pose with theta, tx or ty not finite, and a side of 0 or above 4,096.
+#![tactic(auto)]
+
 ghost use Rattle.std.specs.Prelude.{◌≡◌, ◌≤◌, not, T, is_nan};
 ghost use Rattle.std.specs.Float.Ieee.Scale.{finite};
 ghost use Rattle.lists.specs.Premises.{is_side};

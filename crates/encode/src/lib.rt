@@ -1,6 +1,8 @@
 // Records as bytes, put at the front of a lent slice: what the program `pinlog` reads.
 //
 // These are inner parts: the caller sees to it that there is room and that each number fits its field.
+#![tactic(auto)]
+
 ghost use Rattle.std.specs.Prelude.{◌≡◌, ◌+◌, ◌*◌, ◌≤◌, length};
 ghost use Rattle.lists.specs.Lists.{put};
 ghost use Rattle.encode.specs.Bytes.{half_bytes, word_bytes, start_bytes, settings_bytes, head_bytes};

@@ -4,3 +4,4 @@
 //   Posed     the numbers of a pose by its cosine and sine
 //   Turning   a turn about the middle
 //   Shifting  a shift alone, and a frame of one pixel
+#![tactic(auto)]

@@ -2,3 +2,4 @@
 // result that the alignment's contract admits. In proofs/:
 //   Sums     a sum of one whole number, its mean, and what is left of it: nothing
 //   Refused  the first pass, and the call
+#![tactic(auto)]

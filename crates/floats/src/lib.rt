@@ -11,3 +11,4 @@
 //   FromZero  values from +0 to a bound: squares, their sums; bounds from below
 //   Nearest   what rounding gives, and how far it moves a fraction
 //   Patterns  the values of bit patterns
+#![tactic(auto)]

@@ -1,5 +1,7 @@
 // Both frames made ready in the work: the prepared template in image 8, the prepared input in image 2, its gradients in 3 and 4. What lies
 // past the twelve images stays as it was.
+#![tactic(auto)]
+
 ghost use Rattle.std.specs.Prelude.{◌≡◌, ◌*◌, ◌%◌, ◌≤◌, length};
 ghost use Rattle.lists.specs.Lists.{image, set_image};
 ghost use Rattle.lists.specs.Premises.{InRange, OddFilter};

@@ -3,6 +3,8 @@
 //
 // Both are runs of half differences, with no test in the loop: a row of gradient_y is one run, a row of gradient_x is its first pixel,
 // those between and its last.
+#![tactic(auto)]
+
 ghost use Rattle.std.specs.Prelude.{◌≡◌, ◌+◌, ◌*◌, ◌≤◌, ◌<◌, length, get_or};
 ghost use Rattle.std.specs.Float.{nan};
 ghost use Rattle.lists.specs.Lists.{tab, put, image, set_image};

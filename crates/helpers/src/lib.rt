@@ -1,5 +1,7 @@
 // The number helpers for a caller in C or Rust: what tools/compare-helpers tries on every f32. Each is the inner
 // function under another name, with the same definition; cos, sin and exp_neg ask for the range that document 01 gives.
+#![tactic(auto)]
+
 ghost use Rattle.std.specs.Prelude.{◌≡◌, ◌^◌, ◌≤◌, pos};
 ghost use Rattle.std.specs.Float.Ieee as Ieee;
 ghost use Rattle.std.specs.Float.{binary32};

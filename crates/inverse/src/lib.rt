@@ -1,5 +1,7 @@
 // The inverse of a 3x3 matrix of f32, by document 01's rule: none where the determinant is a zero of either sign. A determinant that is
 // infinite or a NaN counts as there, and so do the entries that come of it.
+#![tactic(auto)]
+
 ghost use Rattle.std.specs.Prelude.{◌≡◌};
 ghost use Rattle.inverse.specs.Inverse.{rows_over_of, inverse_of, times_of, dot_of};
 

@@ -1,5 +1,7 @@
 // The inverse of a 2x2 matrix of f32, by document 02's rule for the rail: none where the determinant is a zero of either sign. A determinant that is
 // infinite or a NaN counts as there, and so do the entries that come of it.
+#![tactic(auto)]
+
 ghost use Rattle.std.specs.Prelude.{◌≡◌};
 ghost use Rattle.inverse2.specs.Inverse.{inverse2_of, times2_of, dot2_of};
 

@@ -2,6 +2,8 @@
 //
 // A place's weight is e^-a, where a grows with its distance from the middle. The front of the caller's array becomes the weights, in
 // order, each over their sum; each operation is rounded once.
+#![tactic(auto)]
+
 ghost use Rattle.std.specs.Prelude.{◌≡◌, ◌%◌, ◌≤◌, ◌<◌, length, get_or};
 ghost use Rattle.std.specs.Float.{nan};
 ghost use Rattle.lists.specs.Lists.{tab, put};

@@ -1,4 +1,6 @@
 // What is printed of a frame: its position from 1, the number of its answer, the passes, and the numbers for the pins.
+#![tactic(auto)]
+
 ghost use Rattle.std.specs.Prelude.{◌≡◌, ◌<◌};
 ghost use Rattle.lines.specs.Lines.{line_of};
 

@@ -11,3 +11,4 @@
 //   Images  images, and a part that was lent and has come back
 //   Fold    folds over marked places, and what they hold by how many are marked
 //   Bytes   parts of bytes, and bytes put together, are bytes
+#![tactic(auto)]

@@ -6,3 +6,4 @@
 //   Right     a step, and the end of the bytes, against the log
 //   Pieces    THE THEOREM: a reading in any pieces prints the log of all the bytes; and every list of pieces is read
 //   Store     what stands in the store at first does not matter
+#![tactic(auto)]

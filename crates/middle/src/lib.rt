@@ -1,6 +1,8 @@
 // How far a point moves along one axis under a row of a matrix, in 1/256 pixel: exact whole numbers, rounded once.
 //
 // A finite f32 is a whole number of units of 2^-149. Sums of such numbers are kept whole, in three digits of 60 bits.
+#![tactic(auto)]
+
 ghost use Rattle.std.specs.Prelude.{◌≡◌, ◌+◌, ◌-◌, ◌*◌, ◌/◌, ◌%◌, ◌^◌, ◌≤◌, ◌<◌, T, ltb};
 ghost use Rattle.std.specs.Float.Ieee.Scale.{finite};
 ghost use Rattle.floats.specs.Bound.{Within};

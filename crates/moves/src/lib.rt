@@ -7,3 +7,4 @@
 //   Images   that about calls
 //   Frames   that about frames
 //   Needed   both examples
+#![tactic(auto)]

@@ -1,5 +1,7 @@
 // Small helpers on f32 and whole numbers. Each gives exactly what its definition in specs/Numbers.antt says, for
 // every input; a whole number becomes an f32 only up to 2^24, below which nothing is lost.
+#![tactic(auto)]
+
 ghost use Rattle.std.specs.Prelude.{◌≡◌, ◌^◌, ◌≤◌, min, pos};
 ghost use Rattle.std.specs.Float.Ieee as Ieee;
 ghost use Rattle.std.specs.Float.{binary32};

@@ -1,4 +1,6 @@
 // The words of a command line: settings, or a picture's name. Any bytes may be handed in.
+#![tactic(auto)]
+
 ghost use Rattle.std.specs.Prelude.{◌≡◌, ◌+◌, ◌≤◌, ◌<◌, ◌^◌, length, drop};
 ghost use Rattle.settings.specs.Settings.{defaults_of};
 ghost use Rattle.options.specs.Words.{begins as Words·begins, whole_of, ratio_of, exponent_of, tail_of, behind_of, eps_of, on_value, with_eps, with_passes, with_filter, with_edge, other_of, word_of, options_of};

@@ -3,6 +3,8 @@
 // The work slice holds twelve images; a pass reads images 2, 3, 4 (the prepared input and its gradients) and 8 (the prepared template) and
 // leaves them as they are. Images 5 to 7 get the warped ones, 9 and 10 the centred ones, 11 j0. The warp tells which rows hold a mark, and what
 // follows walks these rows and no others.
+#![tactic(auto)]
+
 ghost use Rattle.std.specs.Prelude.{◌≡◌, ◌*◌, ◌≤◌};
 ghost use Rattle.lists.specs.Lists.{put, image, set_image};
 ghost use Rattle.lists.specs.Premises.{InRange, Lent};

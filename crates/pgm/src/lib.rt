@@ -1,6 +1,8 @@
 // PGM pictures, plain (P2) and binary (P5), with 8 bits to a pixel, as frame records.
 //
 // Any bytes may be handed in, and room of any length.
+#![tactic(auto)]
+
 ghost use Rattle.std.specs.Prelude.{◌≡◌, false, ◌+◌, ◌*◌, ◌≤◌, length, drop, get_or};
 ghost use Rattle.lists.specs.Lists.{put};
 ghost use Rattle.pgm.specs.Pgm.{blank, open_after, between, gap_of, number_at, kind, magic, start_of, from1_to, ranges_of, header_of};

@@ -3,6 +3,8 @@
 //
 // A pixel is marked exactly when its computed point lies inside: 0 <= sx < w - 1 and 0 <= sy < h - 1 in f32, so never where the point is a
 // NaN. The loop works out numbers alone and reads no image, so that the compiler can take several pixels at a time.
+#![tactic(auto)]
+
 ghost use Rattle.std.specs.Prelude.{◌≡◌, ◌+◌, ◌*◌, ◌≤◌, ◌<◌, T, pos};
 ghost use Rattle.std.specs.Float.{binary32};
 ghost use Rattle.std.specs.Float.Ieee.{in_signed, to_signed, to_unsigned};

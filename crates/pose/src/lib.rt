@@ -1,4 +1,6 @@
 // Poses and answers: what the passes carry, the pose in original pixels, what a call hands back, and the matrix of each.
+#![tactic(auto)]
+
 ghost use Rattle.std.specs.Prelude.{◌≡◌};
 ghost use Rattle.floats.specs.Bound.{Within};
 ghost use Rattle.pose.specs.Pose.{affine_from_theta_tx_ty, unscaled_of, identity3, is_pose, affine_matrix, posed_matrix, matrix_of, number_of};

@@ -1,5 +1,7 @@
 // A frame of bytes made ready: as f32, resized if a side changes, blurred. The work slice holds equal images of n numbers one after
 // another; the prepared image is put in the image j + 2, and a blur leaves what it starts from in j and its first pass in j + 1.
+#![tactic(auto)]
+
 ghost use Rattle.std.specs.Prelude.{◌≡◌, ◌+◌, ◌*◌, ◌%◌, ◌≤◌, length};
 ghost use Rattle.lists.specs.Lists.{put, image, set_image};
 ghost use Rattle.lists.specs.Premises.{InRange, OddFilter};

@@ -3,6 +3,8 @@
 //
 // A call answers with one number: document 01's number (0 for a pose) plus 256 times the pass count. The pose's four numbers go to a lent
 // slice. A slice that is too short for what is to stand at its front stays as it was.
+#![tactic(auto)]
+
 ghost use Rattle.std.specs.Prelude.{◌≡◌, ◌*◌, length};
 ghost use Rattle.lists.specs.Marked.{words_for};
 ghost use Rattle.checks.specs.Checks.{size_of, check_of};

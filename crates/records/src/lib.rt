@@ -2,6 +2,8 @@
 //
 // Any bytes may be handed in. They are what is at hand of a stream, from a record's start on, and may end before the record does. What
 // is broken is said as soon as the bytes show it; a body that is read over need not be at hand.
+#![tactic(auto)]
+
 ghost use Rattle.std.specs.Prelude.{◌≡◌, ◌+◌, ◌≤◌, ◌<◌, length};
 ghost use Rattle.records.specs.Reading.{half_at, word_at, choice_of, config_at, settings_of, frame_of, body_of, next_of};
 

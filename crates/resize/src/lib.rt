@@ -1,5 +1,7 @@
 // resize_bilinear: bytes to an image of other sides. Document 000 indexes with what it computes; for all sides up to 4,096 the four
 // source pixels of each target pixel lie inside the frame, which is proved, so there is no clamp. A weight may be negative.
+#![tactic(auto)]
+
 ghost use Rattle.std.specs.Prelude.{◌≡◌, ◌+◌, ◌-◌, ◌*◌, ◌≤◌, ◌<◌, min, length};
 ghost use Rattle.lists.specs.Lists.{tab, put};
 ghost use Rattle.lists.specs.Premises.{InRange};

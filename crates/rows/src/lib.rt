@@ -1,4 +1,6 @@
 // Which rows hold a mark: none of them, or the first and the last that do. What follows the warp walks these rows and no others.
+#![tactic(auto)]
+
 ghost use Rattle.std.specs.Prelude.{◌≡◌, true, ℕ, ◌+◌, ◌*◌, ◌≤◌, ◌<◌, length};
 ghost use Rattle.lists.specs.Premises.{InRange};
 ghost use Rattle.lists.specs.Marked.{words_for};

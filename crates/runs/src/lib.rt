@@ -2,6 +2,8 @@
 //
 // The work holds both frames made ready; it and the marks come back with what the passes left there, and what lies past the twelve
 // images and past the words of the n marks as it was.
+#![tactic(auto)]
+
 ghost use Rattle.std.specs.Prelude.{◌≡◌, ◌*◌, ◌≤◌};
 ghost use Rattle.lists.specs.Lists.{image};
 ghost use Rattle.lists.specs.Premises.{InRange, Lent};

@@ -1,4 +1,6 @@
 // A whole number in decimal, read from bytes. What stands there may be anything, and of any length.
+#![tactic(auto)]
+
 ghost use Rattle.std.specs.Prelude.{◌≡◌, ◌+◌, ◌-◌, ◌*◌, ◌≤◌, min};
 ghost use Rattle.scan.specs.Scan.{is_digit, digits_at};
 

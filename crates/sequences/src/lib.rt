@@ -5,3 +5,4 @@
 // admits: the store begins with the last frame that was taken, and the record names its sides. In proofs/:
 //   Estimates   one call: `EstimateEnds`
 //   Sequences   calls one after another: `RanKeeps`, `LastKept`
+#![tactic(auto)]

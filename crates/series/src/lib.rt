@@ -1,5 +1,7 @@
 // The cosine and the sine of an f32 from -2 to 2, and e^-a for a from 0 to 6, by whole numbers in units of 2^-30.
 // Each follows document 01's recurrence to the last bit; every product is at most 2^62.
+#![tactic(auto)]
+
 ghost use Rattle.std.specs.Prelude.{◌≡◌, ◌+◌, ◌*◌, ◌/◌, ◌^◌, ◌≤◌, false};
 ghost use Rattle.std.specs.Float.Ieee as Ieee;
 ghost use Rattle.std.specs.Float.{binary32};

@@ -2,6 +2,8 @@
 //
 // Any value of each field may be handed in; what is out of range is refused by the alignment. The sides after resizing are at
 // most 4,096, so an image has at most 2^24 pixels.
+#![tactic(auto)]
+
 ghost use Rattle.std.specs.Prelude.{◌≡◌, ◌≤◌};
 ghost use Rattle.lists.specs.Premises.{InRange};
 ghost use Rattle.floats.specs.Bound.{UpTo};

@@ -6,3 +6,4 @@
 //   Codes    the library
 //   Log      the log of a stream
 //   Needed   the example
+#![tactic(auto)]

@@ -2,6 +2,8 @@
 //
 // It is lent five images one after another, and only reads them: 0 and 1 the warped gradients, 3 and 4 the centred template and image. Image 2 is
 // not looked at.
+#![tactic(auto)]
+
 ghost use Rattle.std.specs.Prelude.{◌≡◌, ◌*◌, ◌≤◌, length};
 ghost use Rattle.lists.specs.Lists.{image};
 ghost use Rattle.lists.specs.Marked.{words_for};

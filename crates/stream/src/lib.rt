@@ -2,6 +2,8 @@
 //
 // Any state, bytes, store, work and marks may be handed in, as long as the frame count does not run over. The bytes are those that
 // follow what earlier steps used; they may end anywhere.
+#![tactic(auto)]
+
 ghost use Rattle.std.specs.Prelude.{◌≡◌, ◌+◌, ◌≤◌, ◌<◌, length};
 ghost use Rattle.records.specs.declared.Record.TheVariants.{Frame};
 ghost use Rattle.stream.specs.Stream.{state_of, first_state, did, passed_of, over_of, act_of, step_of, StepBounds, end_of};

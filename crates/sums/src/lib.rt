@@ -7,6 +7,8 @@
 // h, image_proj and template_proj are sixteen sums, four of them at a time: j0, j1, j2 and image_zm of a pixel side by side, times its j0, its
 // j1, its j2 and its template_zm. For that some pixels' four numbers are laid out in a small scratch first. docs/SPEED.md says what of this
 // form the compiler needs, and `tools/speed --check` whether it still finds it.
+#![tactic(auto)]
+
 ghost use Rattle.std.specs.Prelude.{◌≡◌, ℕ, ◌+◌, ◌-◌, ◌*◌, ◌≤◌, ◌<◌, min, length, get_or};
 ghost use Rattle.std.specs.Float.{nan};
 ghost use Rattle.std.specs.Float.Ieee.{neg};

@@ -5,6 +5,8 @@
 // marked ones, in which no pixel is tested.
 //
 // h[0][1] and h[1][0] are the same sum, so that seven numbers are added up before lambda is known.
+#![tactic(auto)]
+
 ghost use Rattle.std.specs.Prelude.{◌≡◌, ◌+◌, ◌-◌, ◌*◌, ◌≤◌, length, get_or};
 ghost use Rattle.std.specs.Float.{nan};
 ghost use Rattle.lists.specs.Lists.{image};

@@ -1,5 +1,7 @@
 // Whether the code gives the answer that a vector has. A vector is a list of words, its kind first; tools/vectors says how each list is
 // made. A vector that is not well formed, or outside a function's range, does not agree.
+#![tactic(auto)]
+
 ghost use Rattle.std.specs.Prelude.{◌≡◌};
 ghost use Rattle.vectors.specs.Vectors.{agrees_of};
 

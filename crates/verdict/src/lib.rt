@@ -1,6 +1,8 @@
 // What a pass decides between its statistics and its update, by document 01's tests in their order: a norm that is too small (6), a
 // correlation that is not finite (7), a correlation that has settled. A NaN norm is not too small; it makes the correlation a NaN. Over
 // prepared frames 7 is never given (specs/Finite.antt, crate seven).
+#![tactic(auto)]
+
 ghost use Rattle.std.specs.Prelude.{◌≡◌};
 ghost use Rattle.verdict.specs.Verdict.{stops, verdict_of};
 

@@ -5,6 +5,8 @@
 // the places, weights and flags of a piece, in a loop that the compiler can take several pixels at a time; then its flags are packed into
 // the words of the marks; then its pixels are read (crate blends), a stretch of marked ones after the other. The scratch for a piece is
 // small, so that the warp holds it itself.
+#![tactic(auto)]
+
 ghost use Rattle.std.specs.Prelude.{◌≡◌, ℕ, ◌+◌, ◌-◌, ◌*◌, ◌≤◌, ◌<◌, length, get_or};
 ghost use Rattle.lists.specs.Premises.{InRange, Scratch};
 ghost use Rattle.lists.specs.Marked.{words_for};

@@ -1,4 +1,6 @@
 // A stored vector's words as numbers, bytes and floats, and whether floats and bytes are those of the words.
+#![tactic(auto)]
+
 ghost use Rattle.std.specs.Prelude.{◌≡◌, ◌+◌, ◌%◌, ◌^◌, ◌≤◌, length, take, drop};
 ghost use Rattle.lists.specs.Lists.{put};
 ghost use Rattle.words.specs.Words.{stored_at, float_of, has_bits, bytes_at, floats_at, floats_agree, bytes_agree};

@@ -1,4 +1,6 @@
 // Lent memory filled with zeros: floats with +0, words with 0. What stands before and after stays as it was.
+#![tactic(auto)]
+
 ghost use Rattle.std.specs.Prelude.{◌≡◌, ◌+◌, ◌≤◌, length};
 ghost use Rattle.lists.specs.Lists.{tab, put};
 ghost use Rattle.floats.specs.F32.{0f};

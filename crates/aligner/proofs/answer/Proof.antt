@@ -56,8 +56,8 @@ returns-2 c =
     let yes = eq-eqb _ 0 (sym e.before.known.ensures ∙ e.if1.false) in
     let full = length-take-le (a.w * a.h) a.store.now p.2 in
     let why = begun_checked a.aligner (length a.frame.now) a.w a.h (length a.work.now) (length a.marks.now) yes in (
-      f.find-transform-ecc-euclidean.ensures.0 ∙ sym (pick_true _ _ _ yes),
-      (rw (why, ← full) f.find-transform-ecc-euclidean.ensures.1.0, rw (why, ← full) f.find-transform-ecc-euclidean.ensures.1.1),
+      f.find_transform_ecc_euclidean.ensures.0 ∙ sym (pick_true _ _ _ yes),
+      (rw (why, ← full) f.find_transform_ecc_euclidean.ensures.1.0, rw (why, ← full) f.find_transform_ecc_euclidean.ensures.1.1),
     )
 
 pub answer-spec : {M : Type 1} → statement M

@@ -66,9 +66,9 @@ returns c =
     let r = p.before.before.before.before.before in
     let t = r.before.before in
     let a = t.before.before.before.before.before.before.before.before.args in
-    let ready = ready_run a.template.now a.input.now a.w a.h a.tw a.th a.cfg a.work.now _ r.make-ready.ensures in (
-      rw (t.to-f324.ensures, t.before.to-f323.ensures, t.before.before.to-f322.ensures, t.before.before.before.to-f32.ensures) at p.run.ensures.0 ∙ ready,
-      (f.fill-floats.ensures ∙ front_over _ _ _ _ (p.run.ensures.1.0.rest ∙ r.make-ready.ensures.rest), m.fill-words.ensures ∙ ap (λ (k : ℕ). put p.run.new.1.0 0 (tab k (λ _. 0))) (omega arith) ∙ front_over _ _ _ _ p.run.ensures.1.1.rest),
+    let ready = ready_run a.template.now a.input.now a.w a.h a.tw a.th a.cfg a.work.now _ r.make_ready.ensures in (
+      rw (t.to-f324.ensures, t.before.to-f323.ensures, t.before.before.to-f322.ensures, t.before.before.before.to_f32.ensures) at p.run.ensures.0 ∙ ready,
+      (f.fill_floats.ensures ∙ front_over _ _ _ _ (p.run.ensures.1.0.rest ∙ r.make_ready.ensures.rest), m.fill_words.ensures ∙ ap (λ (k : ℕ). put p.run.new.1.0 0 (tab k (λ _. 0))) (omega arith) ∙ front_over _ _ _ _ p.run.ensures.1.1.rest),
     )
 
 pub align-spec : {M : Type 1} → statement M

@@ -35,7 +35,7 @@ returns c =
     let s = small.before.before in
     let a = s.args in
     let m = small.least.result in
-    run.add-run.ensures
+    run.add_run.ensures
     ∙ ap (λ (z : List Float). added_of z (a.dst + m) (a.w - m) (λ i. a.src + i) a.weight) same.add_same.ensures
     ∙ left_joined a.part.now a.dst a.src a.w a.n m a.weight small.least.ensures s.requires.0 s.requires.1 s.requires.2
 

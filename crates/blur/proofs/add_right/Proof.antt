@@ -48,7 +48,7 @@ returns c =
     let a = s.args in
     let m = small.least.result in
     same.add_same.ensures
-    ∙ ap (λ (z : List Float). added_of z (a.dst + (a.w - m)) m (λ _. a.src + (a.w - 1)) a.weight) run.add-run.ensures
+    ∙ ap (λ (z : List Float). added_of z (a.dst + (a.w - m)) m (λ _. a.src + (a.w - 1)) a.weight) run.add_run.ensures
     ∙ right_joined a.part.now a.dst a.src a.w a.n m a.weight small.least.ensures s.requires.0 s.requires.1 s.requires.2
 
 pub add-right-spec : {M : Type 1} → statement M

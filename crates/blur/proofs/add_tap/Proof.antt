@@ -83,7 +83,7 @@ returns-3 c =
     let t = c.before.before in
     let e = t.before.before.before in
     let s = e.before.before.before in
-    t.add-run.ensures ∙ told s _ _ e.enum-told2.given.1 (λ x l. ap (λ (r : ℕ). r * s.args.w + x) t.before.before.held.ensures.0)
+    t.add_run.ensures ∙ told s _ _ e.enum-told2.given.1 (λ x l. ap (λ (r : ℕ). r * s.args.w + x) t.before.before.held.ensures.0)
 
 pub add-tap-spec : {M : Type 1} → statement M
 add-tap-spec =

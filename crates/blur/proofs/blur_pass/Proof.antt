@@ -51,8 +51,8 @@ loop-again c =
     let fits : n + y * a.w + a.w ≤ length xs = omega (arith, room turn) in
     let same : take n l.loop.part ≡ take n xs = ap (take n) l.loop.invariant.2 ∙ take_rows xs n a.w g y (omega arith) n (omega arith) in (
       omega arith,
-      omega (arith, done.blur-row.auto.1.0),
-      rw same at done.blur-row.ensures
+      omega (arith, done.blur_row.auto.1.0),
+      rw same at done.blur_row.ensures
           ∙ ap (λ (z : List Float). put z (n + y * a.w) (tab a.w (λ x. g x y))) l.loop.invariant.2
           ∙ rows_more xs n a.w g y fits,
     )

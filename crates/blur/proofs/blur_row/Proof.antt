@@ -34,7 +34,7 @@ loop-holds c =
     let cleared = c.before.before in
     let s = cleared.before.before.before.before in
     let a = s.args in
-    (taps_none a.along a.ks.now a.ksize a.w a.h a.y a.part.now (a.w * a.h + a.y * a.w) (omega arith) s.requires.6 _ cleared.fill-floats.ensures, search rules, refl)
+    (taps_none a.along a.ks.now a.ksize a.w a.h a.y a.part.now (a.w * a.h + a.y * a.w) (omega arith) s.requires.6 _ cleared.fill_floats.ensures, search rules, refl)
 
 mul-add-tap : tie.Need-overflow-mul-add-tap invariant-loop decreases-loop
 mul-add-tap c = search rules
@@ -43,7 +43,7 @@ shared-slice-read-add-tap : tie.Need-shared-slice-read-add-tap invariant-loop de
 shared-slice-read-add-tap c = search rules
 
 add-tap-requires : tie.Need-add-tap-requires invariant-loop decreases-loop
-add-tap-requires c κs = let begun = c.before.before.before.before in omega (arith, begun.before.before.fill-floats.auto.0, begun.before.before.before.before.before.before.requires)
+add-tap-requires c κs = let begun = c.before.before.before.before in omega (arith, begun.before.before.fill_floats.auto.0, begun.before.before.before.before.before.before.requires)
 
 add-k : tie.Need-overflow-add-k invariant-loop decreases-loop
 add-k c = search rules
@@ -60,13 +60,13 @@ loop-again c =
     let a = s.args in
     let k = l.loop.k in
     let dst = a.w * a.h + a.y * a.w in
-    let ps = cleared.fill-floats.new.0 in
-    let size = cleared.fill-floats.auto.0 in (
-      tap.add-tap.ensures
+    let ps = cleared.fill_floats.new.0 in
+    let size = cleared.fill_floats.auto.0 in (
+      tap.add_tap.ensures
           ∙ ap (λ (z : List Float). added_of z dst a.w (λ x. spot_of a.along a.ksize a.w a.h x a.y k) (get_or a.ks.now k nan)) l.loop.invariant.0
           ∙ taps_more a.along a.ks.now a.ksize a.w a.h a.y ps dst (omega arith) (omega (arith, s.requires.6)) s.requires.2 k,
       omega arith,
-      omega (arith, tap.add-tap.auto.1.0),
+      omega (arith, tap.add_tap.auto.1.0),
     )
 
 same_length : tie.Need-same-length invariant-loop decreases-loop
@@ -80,8 +80,8 @@ returns c =
     let a = s.args in
     let end : l.loop.k ≡ a.ksize = omega arith in
     l.loop.invariant.0
-    ∙ ap (row a.along a.ks.now a.ksize a.w a.h a.y (a.w * a.h + a.y * a.w) cleared.fill-floats.new.0) end
-    ∙ taps_end a.along a.ks.now a.ksize a.w a.h a.y a.part.now (a.w * a.h + a.y * a.w) (omega arith) s.requires.6 _ cleared.fill-floats.ensures a.ksize
+    ∙ ap (row a.along a.ks.now a.ksize a.w a.h a.y (a.w * a.h + a.y * a.w) cleared.fill_floats.new.0) end
+    ∙ taps_end a.along a.ks.now a.ksize a.w a.h a.y a.part.now (a.w * a.h + a.y * a.w) (omega arith) s.requires.6 _ cleared.fill_floats.ensures a.ksize
 
 pub blur-row-spec : {M : Type 1} → statement M
 blur-row-spec =

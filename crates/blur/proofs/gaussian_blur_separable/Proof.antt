@@ -10,10 +10,10 @@ use Rattle.blur.proofs.gaussian_blur_separable.Statement.{statement}
 use Rattle.blur.proofs.gaussian_blur_separable.Tie as tie
 
 -- what the front of the array holds
-kernel : (c : tie.After-gaussian-kernel) → let s = c.before.before.before in take s.args.ksize c.gaussian-kernel.new.1.0 ≡ kernel_of s.args.ksize
-kernel c = front_is c.before.before.before.args.ksize _ _ c.gaussian-kernel.ensures
+kernel : (c : tie.After-gaussian-kernel) → let s = c.before.before.before in take s.args.ksize c.gaussian_kernel.new.1.0 ≡ kernel_of s.args.ksize
+kernel c = front_is c.before.before.before.args.ksize _ _ c.gaussian_kernel.ensures
 
-size : (c : tie.After-gaussian-kernel) → let s = c.before.before.before in length (take s.args.ksize c.gaussian-kernel.new.1.0) ≡ s.args.ksize
+size : (c : tie.After-gaussian-kernel) → let s = c.before.before.before in length (take s.args.ksize c.gaussian_kernel.new.1.0) ≡ s.args.ksize
 size c = ap length (kernel c) ∙ length_kernel c.before.before.before.args.ksize
 
 slice-aggregate-gaussian-kernel : tie.Need-slice-aggregate-gaussian-kernel
@@ -57,7 +57,7 @@ blur-pass-requires-2 c κs =
     let done = c.before.before.before.before in
     let s = done.before.before.before.before.before.before.before in
     let q = size done.before.before.before.before in
-    let kept = done.blur-pass.auto.1.0 in
+    let kept = done.blur_pass.auto.1.0 in
     (search rules, search rules, search rules, simp (length-take, length-drop) (omega (arith, s.requires)))
 
 same_length : tie.Need-same-length
@@ -70,7 +70,7 @@ returns c =
     let ready = along.before.before.before.before in
     let s = ready.before.before.before in
     let a = s.args in
-    both a.ksize a.w a.h _ a.part.now _ _ (kernel ready) s.requires.3 along.blur-pass.ensures down.blur-pass2.ensures
+    both a.ksize a.w a.h _ a.part.now _ _ (kernel ready) s.requires.3 along.blur_pass.ensures down.blur_pass2.ensures
 
 pub gaussian-blur-separable-spec : {M : Type 1} → statement M
 gaussian-blur-separable-spec =

@@ -11,13 +11,13 @@ returns : tie.Need-returns
 unfolding config_of
 returns c =
     let a = c.before.args in
-    ap (λ (e : LongEdge). record { eps = a.eps; max_iter = a.max-iter; gauss_filt_size = a.filter; resize_long_edge = e }) (sym (pick_true _ _ _ (eq-eqb _ _ c.if1.true)))
+    ap (λ (e : LongEdge). record { eps = a.eps; max_iter = a.max_iter; gauss_filt_size = a.filter; resize_long_edge = e }) (sym (pick_true _ _ _ (eq-eqb _ _ c.if1.true)))
 
 returns-2 : tie.Need-returns-2
 unfolding config_of
 returns-2 c =
     let a = c.before.args in
-    ap (λ (e : LongEdge). record { eps = a.eps; max_iter = a.max-iter; gauss_filt_size = a.filter; resize_long_edge = e }) (sym (pick_false _ _ _ (ne_eqb _ _ c.if1.false)))
+    ap (λ (e : LongEdge). record { eps = a.eps; max_iter = a.max_iter; gauss_filt_size = a.filter; resize_long_edge = e }) (sym (pick_false _ _ _ (ne_eqb _ _ c.if1.false)))
 
 pub config-spec : {M : Type 1} → statement M
 config-spec = tie.close (tie.spec returns returns-2)

@@ -32,7 +32,7 @@ same-length-2 c = search rules
 
 returns-2 : tie.Need-returns-2
 unfolding pose_of told_of
-returns-2 c = c.before.before.put-four2.ensures ∙ ap (λ (l : List Float). fronted l c.before.before.before.before.before.before.before.before.args.out.now) (sym (ap pose_of c.before.before.before.before.before.a.given.1))
+returns-2 c = c.before.before.put_four2.ensures ∙ ap (λ (l : List Float). fronted l c.before.before.before.before.before.before.before.before.args.out.now) (sym (ap pose_of c.before.before.before.before.before.a.given.1))
 
 pub put-pose-spec : {M : Type 1} → statement M
 put-pose-spec =

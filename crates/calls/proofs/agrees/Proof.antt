@@ -16,11 +16,11 @@ pins-agree-requires c κs = search rules
 
 returns : tie.Need-returns
 unfolding calls_agree pick
-returns c = c.call-agrees.ensures ∙ sym (ap (λ (k : ℕ). calls_agree k c.before.before.before.args.words.now) c.before.match.keys1)
+returns c = c.call_agrees.ensures ∙ sym (ap (λ (k : ℕ). calls_agree k c.before.before.before.args.words.now) c.before.match.keys1)
 
 returns-2 : tie.Need-returns-2
 unfolding calls_agree pick
-returns-2 c = c.pins-agree.ensures ∙ sym (ap (λ (k : ℕ). calls_agree k c.before.before.before.args.words.now) c.before.match.keys2)
+returns-2 c = c.pins_agree.ensures ∙ sym (ap (λ (k : ℕ). calls_agree k c.before.before.before.args.words.now) c.before.match.keys2)
 
 returns-3 : tie.Need-returns-3
 unfolding calls_agree

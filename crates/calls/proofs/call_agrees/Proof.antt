@@ -77,7 +77,7 @@ called-requires : tie.Need-called-requires
 called-requires c κs = search rules
 
 returns-2 : tie.Need-returns-2
-returns-2 c = c.before.before.called.ensures ∙ call_told c.before.before.before.before.before.before.before.before.before.before.before.before.before.before.before.before.before.before.before.before.args.words.now (sym c.before.before.before.before.before.before.before.before.before.before.before.before.before.before.before.before.before.before.is_whole.ensures ∙ not-false _ c.before.before.before.before.before.before.before.before.before.before.before.before.before.before.before.before.before.if1.false) c.before.before.before.before.before.before.before.before.before.before.before.before.before.before.before.before.length_at.ensures.1 c.before.before.before.before.before.before.before.before.before.before.before.before.before.before.before.length-at2.ensures.1 c.before.before.before.before.before.before.before.before.before.before.before.before.before.before.length-at3.ensures.1 c.before.before.before.before.before.before.before.before.before.before.before.before.before.length-at4.ensures.1 c.before.before.before.before.before.before.before.before.before.before.before.before.before.before.before.before.length_at.ensures.0 c.before.before.before.before.before.before.before.before.before.before.before.before.before.before.before.length-at2.ensures.0 c.before.before.before.before.before.before.before.before.before.before.before.bytes.ensures c.before.before.before.before.before.before.before.before.bytes2.ensures (length-take-le _ _ c.before.before.before.before.before.before.before.before.before.before.before.before.before.before.length-at3.ensures.0) (length-take-le _ _ c.before.before.before.before.before.before.before.before.before.before.before.before.before.length-at4.ensures.0)
+returns-2 c = c.before.before.called.ensures ∙ call_told c.before.before.before.before.before.before.before.before.before.before.before.before.before.before.before.before.before.before.before.before.args.words.now (sym c.before.before.before.before.before.before.before.before.before.before.before.before.before.before.before.before.before.before.is_whole.ensures ∙ not-false _ c.before.before.before.before.before.before.before.before.before.before.before.before.before.before.before.before.before.if1.false) c.before.before.before.before.before.before.before.before.before.before.before.before.before.before.before.before.length_at.ensures.1 c.before.before.before.before.before.before.before.before.before.before.before.before.before.before.before.length_at2.ensures.1 c.before.before.before.before.before.before.before.before.before.before.before.before.before.before.length_at3.ensures.1 c.before.before.before.before.before.before.before.before.before.before.before.before.before.length_at4.ensures.1 c.before.before.before.before.before.before.before.before.before.before.before.before.before.before.before.before.length_at.ensures.0 c.before.before.before.before.before.before.before.before.before.before.before.before.before.before.before.length_at2.ensures.0 c.before.before.before.before.before.before.before.before.before.before.before.bytes.ensures c.before.before.before.before.before.before.before.before.bytes2.ensures (length-take-le _ _ c.before.before.before.before.before.before.before.before.before.before.before.before.before.before.length_at3.ensures.0) (length-take-le _ _ c.before.before.before.before.before.before.before.before.before.before.before.before.before.length_at4.ensures.0)
 
 pub call-agrees-spec : {M : Type 1} → statement M
 call-agrees-spec =

@@ -40,7 +40,7 @@ same-length-2 c = search rules
 
 returns : tie.Need-returns
 unfolding called_agrees
-returns c = rw (sym (outcome_told c.before.before.before.before.before.before.before.before.before.before.before.before.before.before.before.before.before.before.before.before.before.before.before.before.before.args.words.now c.before.before.before.before.before.before.before.before.before.before.before.before.before.before.before.before.before.before.before.before.before.before.before.before.before.args.template.now c.before.before.before.before.before.before.before.before.before.before.before.before.before.before.before.before.before.before.before.before.before.before.before.before.before.args.input.now c.before.before.before.before.before.before.before.before.before.before.before.before.before.before.before.before.before.before.before.before.before.before.before.before.before.args.at (length c.before.before.before.before.before.before.before.before.before.before.before.before.before.before.before.before.before.before.before.before.before.before.before.before.before.args.work.now) (length c.before.before.before.before.before.before.before.before.before.before.before.before.before.before.before.before.before.before.before.before.before.before.before.before.before.args.marks.now) c.before.before.before.before.before.before.before.before.before.before.before.word.ensures c.before.before.before.before.before.before.before.before.before.before.word2.ensures c.before.before.before.before.before.before.before.before.before.settings-at.ensures c.before.before.before.before.before.before.before.before.before.before.before.before.before.before.before.before.before.before.fill-work.ensures c.before.before.before.before.before.before.before.before.before.before.before.before.before.before.fill-marks.ensures c.before.before.before.before.before.before.find-transform-ecc-euclidean.ensures.0 c.before.before.before.before.before.before.find-transform-ecc-euclidean.ensures.1.0 c.before.before.before.before.before.before.find-transform-ecc-euclidean.ensures.1.1) ∙ sym c.before.outcome-agrees.ensures ∙ not-true _ c.if1.true)
+returns c = rw (sym (outcome_told c.before.before.before.before.before.before.before.before.before.before.before.before.before.before.before.before.before.before.before.before.before.before.before.before.before.args.words.now c.before.before.before.before.before.before.before.before.before.before.before.before.before.before.before.before.before.before.before.before.before.before.before.before.before.args.template.now c.before.before.before.before.before.before.before.before.before.before.before.before.before.before.before.before.before.before.before.before.before.before.before.before.before.args.input.now c.before.before.before.before.before.before.before.before.before.before.before.before.before.before.before.before.before.before.before.before.before.before.before.before.before.args.at (length c.before.before.before.before.before.before.before.before.before.before.before.before.before.before.before.before.before.before.before.before.before.before.before.before.before.args.work.now) (length c.before.before.before.before.before.before.before.before.before.before.before.before.before.before.before.before.before.before.before.before.before.before.before.before.before.args.marks.now) c.before.before.before.before.before.before.before.before.before.before.before.word.ensures c.before.before.before.before.before.before.before.before.before.before.word2.ensures c.before.before.before.before.before.before.before.before.before.settings_at.ensures c.before.before.before.before.before.before.before.before.before.before.before.before.before.before.before.before.before.before.fill_work.ensures c.before.before.before.before.before.before.before.before.before.before.before.before.before.before.fill_marks.ensures c.before.before.before.before.before.before.find_transform_ecc_euclidean.ensures.0 c.before.before.before.before.before.before.find_transform_ecc_euclidean.ensures.1.0 c.before.before.before.before.before.before.find_transform_ecc_euclidean.ensures.1.1) ∙ sym c.before.outcome_agrees.ensures ∙ not-true _ c.if1.true)
 
 add-word : tie.Need-overflow-add-word
 add-word c = search rules
@@ -59,7 +59,7 @@ same-length-4 c = search rules
 
 returns-2 : tie.Need-returns-2
 unfolding called_agrees
-returns-2 c = rw (sym (outcome_told c.before.before.before.before.before.before.before.before.before.before.before.before.before.before.before.before.before.before.before.before.before.before.before.before.before.before.before.before.before.args.words.now c.before.before.before.before.before.before.before.before.before.before.before.before.before.before.before.before.before.before.before.before.before.before.before.before.before.before.before.before.before.args.template.now c.before.before.before.before.before.before.before.before.before.before.before.before.before.before.before.before.before.before.before.before.before.before.before.before.before.before.before.before.before.args.input.now c.before.before.before.before.before.before.before.before.before.before.before.before.before.before.before.before.before.before.before.before.before.before.before.before.before.before.before.before.before.args.at (length c.before.before.before.before.before.before.before.before.before.before.before.before.before.before.before.before.before.before.before.before.before.before.before.before.before.before.before.before.before.args.work.now) (length c.before.before.before.before.before.before.before.before.before.before.before.before.before.before.before.before.before.before.before.before.before.before.before.before.before.before.before.before.before.args.marks.now) c.before.before.before.before.before.before.before.before.before.before.before.before.before.before.before.word.ensures c.before.before.before.before.before.before.before.before.before.before.before.before.before.before.word2.ensures c.before.before.before.before.before.before.before.before.before.before.before.before.before.settings-at.ensures c.before.before.before.before.before.before.before.before.before.before.before.before.before.before.before.before.before.before.before.before.before.before.fill-work.ensures c.before.before.before.before.before.before.before.before.before.before.before.before.before.before.before.before.before.before.fill-marks.ensures c.before.before.before.before.before.before.before.before.before.before.find-transform-ecc-euclidean.ensures.0 c.before.before.before.before.before.before.before.before.before.before.find-transform-ecc-euclidean.ensures.1.0 c.before.before.before.before.before.before.before.before.before.before.find-transform-ecc-euclidean.ensures.1.1) ∙ sym c.before.before.before.before.before.outcome-agrees.ensures ∙ not-false _ c.before.before.before.before.if1.false, sym (work_told c.before.before.before.before.before.before.before.before.before.before.before.before.before.before.before.before.before.before.before.before.before.before.before.before.before.before.before.before.before.args.words.now c.before.before.before.before.before.before.before.before.before.before.before.before.before.before.before.before.before.before.before.before.before.before.before.before.before.before.before.before.before.args.template.now c.before.before.before.before.before.before.before.before.before.before.before.before.before.before.before.before.before.before.before.before.before.before.before.before.before.before.before.before.before.args.input.now c.before.before.before.before.before.before.before.before.before.before.before.before.before.before.before.before.before.before.before.before.before.before.before.before.before.before.before.before.before.args.at (length c.before.before.before.before.before.before.before.before.before.before.before.before.before.before.before.before.before.before.before.before.before.before.before.before.before.before.before.before.before.args.work.now) (length c.before.before.before.before.before.before.before.before.before.before.before.before.before.before.before.before.before.before.before.before.before.before.before.before.before.before.before.before.before.args.marks.now) c.before.before.before.before.before.before.before.before.before.before.before.before.before.before.before.word.ensures c.before.before.before.before.before.before.before.before.before.before.before.before.before.before.word2.ensures c.before.before.before.before.before.before.before.before.before.before.before.before.before.settings-at.ensures c.before.before.before.before.before.before.before.before.before.before.before.before.before.before.before.before.before.before.before.before.before.before.fill-work.ensures c.before.before.before.before.before.before.before.before.before.before.before.before.before.before.before.before.before.before.fill-marks.ensures c.before.before.before.before.before.before.before.before.before.before.find-transform-ecc-euclidean.ensures.0 c.before.before.before.before.before.before.before.before.before.before.find-transform-ecc-euclidean.ensures.1.0 c.before.before.before.before.before.before.before.before.before.before.find-transform-ecc-euclidean.ensures.1.1 _) ∙ ap (λ (z : ℕ). work_agrees z c.before.before.before.before.before.before.before.before.before.before.find-transform-ecc-euclidean.new.1.1.1.1.1.0) (sym c.before.before.word3.ensures) ∙ sym c.before.work-agrees.ensures ∙ not-true _ c.if2.true)
+returns-2 c = rw (sym (outcome_told c.before.before.before.before.before.before.before.before.before.before.before.before.before.before.before.before.before.before.before.before.before.before.before.before.before.before.before.before.before.args.words.now c.before.before.before.before.before.before.before.before.before.before.before.before.before.before.before.before.before.before.before.before.before.before.before.before.before.before.before.before.before.args.template.now c.before.before.before.before.before.before.before.before.before.before.before.before.before.before.before.before.before.before.before.before.before.before.before.before.before.before.before.before.before.args.input.now c.before.before.before.before.before.before.before.before.before.before.before.before.before.before.before.before.before.before.before.before.before.before.before.before.before.before.before.before.before.args.at (length c.before.before.before.before.before.before.before.before.before.before.before.before.before.before.before.before.before.before.before.before.before.before.before.before.before.before.before.before.before.args.work.now) (length c.before.before.before.before.before.before.before.before.before.before.before.before.before.before.before.before.before.before.before.before.before.before.before.before.before.before.before.before.before.args.marks.now) c.before.before.before.before.before.before.before.before.before.before.before.before.before.before.before.word.ensures c.before.before.before.before.before.before.before.before.before.before.before.before.before.before.word2.ensures c.before.before.before.before.before.before.before.before.before.before.before.before.before.settings_at.ensures c.before.before.before.before.before.before.before.before.before.before.before.before.before.before.before.before.before.before.before.before.before.before.fill_work.ensures c.before.before.before.before.before.before.before.before.before.before.before.before.before.before.before.before.before.before.fill_marks.ensures c.before.before.before.before.before.before.before.before.before.before.find_transform_ecc_euclidean.ensures.0 c.before.before.before.before.before.before.before.before.before.before.find_transform_ecc_euclidean.ensures.1.0 c.before.before.before.before.before.before.before.before.before.before.find_transform_ecc_euclidean.ensures.1.1) ∙ sym c.before.before.before.before.before.outcome_agrees.ensures ∙ not-false _ c.before.before.before.before.if1.false, sym (work_told c.before.before.before.before.before.before.before.before.before.before.before.before.before.before.before.before.before.before.before.before.before.before.before.before.before.before.before.before.before.args.words.now c.before.before.before.before.before.before.before.before.before.before.before.before.before.before.before.before.before.before.before.before.before.before.before.before.before.before.before.before.before.args.template.now c.before.before.before.before.before.before.before.before.before.before.before.before.before.before.before.before.before.before.before.before.before.before.before.before.before.before.before.before.before.args.input.now c.before.before.before.before.before.before.before.before.before.before.before.before.before.before.before.before.before.before.before.before.before.before.before.before.before.before.before.before.before.args.at (length c.before.before.before.before.before.before.before.before.before.before.before.before.before.before.before.before.before.before.before.before.before.before.before.before.before.before.before.before.before.args.work.now) (length c.before.before.before.before.before.before.before.before.before.before.before.before.before.before.before.before.before.before.before.before.before.before.before.before.before.before.before.before.before.args.marks.now) c.before.before.before.before.before.before.before.before.before.before.before.before.before.before.before.word.ensures c.before.before.before.before.before.before.before.before.before.before.before.before.before.before.word2.ensures c.before.before.before.before.before.before.before.before.before.before.before.before.before.settings_at.ensures c.before.before.before.before.before.before.before.before.before.before.before.before.before.before.before.before.before.before.before.before.before.before.fill_work.ensures c.before.before.before.before.before.before.before.before.before.before.before.before.before.before.before.before.before.before.fill_marks.ensures c.before.before.before.before.before.before.before.before.before.before.find_transform_ecc_euclidean.ensures.0 c.before.before.before.before.before.before.before.before.before.before.find_transform_ecc_euclidean.ensures.1.0 c.before.before.before.before.before.before.before.before.before.before.find_transform_ecc_euclidean.ensures.1.1 _) ∙ ap (λ (z : ℕ). work_agrees z c.before.before.before.before.before.before.before.before.before.before.find_transform_ecc_euclidean.new.1.1.1.1.1.0) (sym c.before.before.word3.ensures) ∙ sym c.before.work_agrees.ensures ∙ not-true _ c.if2.true)
 
 add-word-2 : tie.Need-overflow-add-word-2
 add-word-2 c = omega (arith, c.before.before.before.before.before.before.before.before.before.before.before.before.before.before.before.before.before.before.before.before.before.before.before.before.before.before.before.before.before.before.requires)
@@ -71,14 +71,14 @@ marks-agree-requires : tie.Need-marks-agree-requires
 marks-agree-requires c κs = search rules
 
 same-length-5 : tie.Need-same-length-5
-same-length-5 c = omega (arith, c.before.before.before.before.before.before.before.before.before.before.before.before.before.find-transform-ecc-euclidean.auto.1.1.1.1.1.0, c.before.before.before.before.before.before.before.before.before.before.before.before.before.before.before.before.before.before.before.before.before.before.before.before.before.fill-work.auto.0)
+same-length-5 c = omega (arith, c.before.before.before.before.before.before.before.before.before.before.before.before.before.find_transform_ecc_euclidean.auto.1.1.1.1.1.0, c.before.before.before.before.before.before.before.before.before.before.before.before.before.before.before.before.before.before.before.before.before.before.before.before.before.fill_work.auto.0)
 
 same-length-6 : tie.Need-same-length-6
 same-length-6 c = search rules
 
 returns-3 : tie.Need-returns-3
 unfolding called_agrees
-returns-3 c = and_passed (both (sym (outcome_told c.before.before.before.before.before.before.before.before.before.before.before.before.before.before.before.before.before.before.before.before.before.before.before.before.before.before.before.before.before.before.before.before.args.words.now c.before.before.before.before.before.before.before.before.before.before.before.before.before.before.before.before.before.before.before.before.before.before.before.before.before.before.before.before.before.before.before.before.args.template.now c.before.before.before.before.before.before.before.before.before.before.before.before.before.before.before.before.before.before.before.before.before.before.before.before.before.before.before.before.before.before.before.before.args.input.now c.before.before.before.before.before.before.before.before.before.before.before.before.before.before.before.before.before.before.before.before.before.before.before.before.before.before.before.before.before.before.before.before.args.at (length c.before.before.before.before.before.before.before.before.before.before.before.before.before.before.before.before.before.before.before.before.before.before.before.before.before.before.before.before.before.before.before.before.args.work.now) (length c.before.before.before.before.before.before.before.before.before.before.before.before.before.before.before.before.before.before.before.before.before.before.before.before.before.before.before.before.before.before.before.before.args.marks.now) c.before.before.before.before.before.before.before.before.before.before.before.before.before.before.before.before.before.before.word.ensures c.before.before.before.before.before.before.before.before.before.before.before.before.before.before.before.before.before.word2.ensures c.before.before.before.before.before.before.before.before.before.before.before.before.before.before.before.before.settings-at.ensures c.before.before.before.before.before.before.before.before.before.before.before.before.before.before.before.before.before.before.before.before.before.before.before.before.before.fill-work.ensures c.before.before.before.before.before.before.before.before.before.before.before.before.before.before.before.before.before.before.before.before.before.fill-marks.ensures c.before.before.before.before.before.before.before.before.before.before.before.before.before.find-transform-ecc-euclidean.ensures.0 c.before.before.before.before.before.before.before.before.before.before.before.before.before.find-transform-ecc-euclidean.ensures.1.0 c.before.before.before.before.before.before.before.before.before.before.before.before.before.find-transform-ecc-euclidean.ensures.1.1) ∙ sym c.before.before.before.before.before.before.before.before.outcome-agrees.ensures ∙ not-false _ c.before.before.before.before.before.before.before.if1.false) (sym (work_told c.before.before.before.before.before.before.before.before.before.before.before.before.before.before.before.before.before.before.before.before.before.before.before.before.before.before.before.before.before.before.before.before.args.words.now c.before.before.before.before.before.before.before.before.before.before.before.before.before.before.before.before.before.before.before.before.before.before.before.before.before.before.before.before.before.before.before.before.args.template.now c.before.before.before.before.before.before.before.before.before.before.before.before.before.before.before.before.before.before.before.before.before.before.before.before.before.before.before.before.before.before.before.before.args.input.now c.before.before.before.before.before.before.before.before.before.before.before.before.before.before.before.before.before.before.before.before.before.before.before.before.before.before.before.before.before.before.before.before.args.at (length c.before.before.before.before.before.before.before.before.before.before.before.before.before.before.before.before.before.before.before.before.before.before.before.before.before.before.before.before.before.before.before.before.args.work.now) (length c.before.before.before.before.before.before.before.before.before.before.before.before.before.before.before.before.before.before.before.before.before.before.before.before.before.before.before.before.before.before.before.before.args.marks.now) c.before.before.before.before.before.before.before.before.before.before.before.before.before.before.before.before.before.before.word.ensures c.before.before.before.before.before.before.before.before.before.before.before.before.before.before.before.before.before.word2.ensures c.before.before.before.before.before.before.before.before.before.before.before.before.before.before.before.before.settings-at.ensures c.before.before.before.before.before.before.before.before.before.before.before.before.before.before.before.before.before.before.before.before.before.before.before.before.before.fill-work.ensures c.before.before.before.before.before.before.before.before.before.before.before.before.before.before.before.before.before.before.before.before.before.fill-marks.ensures c.before.before.before.before.before.before.before.before.before.before.before.before.before.find-transform-ecc-euclidean.ensures.0 c.before.before.before.before.before.before.before.before.before.before.before.before.before.find-transform-ecc-euclidean.ensures.1.0 c.before.before.before.before.before.before.before.before.before.before.before.before.before.find-transform-ecc-euclidean.ensures.1.1 _) ∙ ap (λ (z : ℕ). work_agrees z c.before.before.before.before.before.before.before.before.before.before.before.before.before.find-transform-ecc-euclidean.new.1.1.1.1.1.0) (sym c.before.before.before.before.before.word3.ensures) ∙ sym c.before.before.before.before.work-agrees.ensures ∙ not-false _ c.before.before.before.if2.false)) (c.marks-agree.ensures ∙ ap (λ (z : ℕ). marks_agree z c.before.before.before.before.before.before.before.before.before.before.before.before.before.find-transform-ecc-euclidean.new.1.1.1.1.1.1.0) c.before.word4.ensures ∙ marks_told c.before.before.before.before.before.before.before.before.before.before.before.before.before.before.before.before.before.before.before.before.before.before.before.before.before.before.before.before.before.before.before.before.args.words.now c.before.before.before.before.before.before.before.before.before.before.before.before.before.before.before.before.before.before.before.before.before.before.before.before.before.before.before.before.before.before.before.before.args.template.now c.before.before.before.before.before.before.before.before.before.before.before.before.before.before.before.before.before.before.before.before.before.before.before.before.before.before.before.before.before.before.before.before.args.input.now c.before.before.before.before.before.before.before.before.before.before.before.before.before.before.before.before.before.before.before.before.before.before.before.before.before.before.before.before.before.before.before.before.args.at (length c.before.before.before.before.before.before.before.before.before.before.before.before.before.before.before.before.before.before.before.before.before.before.before.before.before.before.before.before.before.before.before.before.args.work.now) (length c.before.before.before.before.before.before.before.before.before.before.before.before.before.before.before.before.before.before.before.before.before.before.before.before.before.before.before.before.before.before.before.before.args.marks.now) c.before.before.before.before.before.before.before.before.before.before.before.before.before.before.before.before.before.before.word.ensures c.before.before.before.before.before.before.before.before.before.before.before.before.before.before.before.before.before.word2.ensures c.before.before.before.before.before.before.before.before.before.before.before.before.before.before.before.before.settings-at.ensures c.before.before.before.before.before.before.before.before.before.before.before.before.before.before.before.before.before.before.before.before.before.before.before.before.before.fill-work.ensures c.before.before.before.before.before.before.before.before.before.before.before.before.before.before.before.before.before.before.before.before.before.fill-marks.ensures c.before.before.before.before.before.before.before.before.before.before.before.before.before.find-transform-ecc-euclidean.ensures.0 c.before.before.before.before.before.before.before.before.before.before.before.before.before.find-transform-ecc-euclidean.ensures.1.0 c.before.before.before.before.before.before.before.before.before.before.before.before.before.find-transform-ecc-euclidean.ensures.1.1 _)
+returns-3 c = and_passed (both (sym (outcome_told c.before.before.before.before.before.before.before.before.before.before.before.before.before.before.before.before.before.before.before.before.before.before.before.before.before.before.before.before.before.before.before.before.args.words.now c.before.before.before.before.before.before.before.before.before.before.before.before.before.before.before.before.before.before.before.before.before.before.before.before.before.before.before.before.before.before.before.before.args.template.now c.before.before.before.before.before.before.before.before.before.before.before.before.before.before.before.before.before.before.before.before.before.before.before.before.before.before.before.before.before.before.before.before.args.input.now c.before.before.before.before.before.before.before.before.before.before.before.before.before.before.before.before.before.before.before.before.before.before.before.before.before.before.before.before.before.before.before.before.args.at (length c.before.before.before.before.before.before.before.before.before.before.before.before.before.before.before.before.before.before.before.before.before.before.before.before.before.before.before.before.before.before.before.before.args.work.now) (length c.before.before.before.before.before.before.before.before.before.before.before.before.before.before.before.before.before.before.before.before.before.before.before.before.before.before.before.before.before.before.before.before.args.marks.now) c.before.before.before.before.before.before.before.before.before.before.before.before.before.before.before.before.before.before.word.ensures c.before.before.before.before.before.before.before.before.before.before.before.before.before.before.before.before.before.word2.ensures c.before.before.before.before.before.before.before.before.before.before.before.before.before.before.before.before.settings_at.ensures c.before.before.before.before.before.before.before.before.before.before.before.before.before.before.before.before.before.before.before.before.before.before.before.before.before.fill_work.ensures c.before.before.before.before.before.before.before.before.before.before.before.before.before.before.before.before.before.before.before.before.before.fill_marks.ensures c.before.before.before.before.before.before.before.before.before.before.before.before.before.find_transform_ecc_euclidean.ensures.0 c.before.before.before.before.before.before.before.before.before.before.before.before.before.find_transform_ecc_euclidean.ensures.1.0 c.before.before.before.before.before.before.before.before.before.before.before.before.before.find_transform_ecc_euclidean.ensures.1.1) ∙ sym c.before.before.before.before.before.before.before.before.outcome_agrees.ensures ∙ not-false _ c.before.before.before.before.before.before.before.if1.false) (sym (work_told c.before.before.before.before.before.before.before.before.before.before.before.before.before.before.before.before.before.before.before.before.before.before.before.before.before.before.before.before.before.before.before.before.args.words.now c.before.before.before.before.before.before.before.before.before.before.before.before.before.before.before.before.before.before.before.before.before.before.before.before.before.before.before.before.before.before.before.before.args.template.now c.before.before.before.before.before.before.before.before.before.before.before.before.before.before.before.before.before.before.before.before.before.before.before.before.before.before.before.before.before.before.before.before.args.input.now c.before.before.before.before.before.before.before.before.before.before.before.before.before.before.before.before.before.before.before.before.before.before.before.before.before.before.before.before.before.before.before.before.args.at (length c.before.before.before.before.before.before.before.before.before.before.before.before.before.before.before.before.before.before.before.before.before.before.before.before.before.before.before.before.before.before.before.before.args.work.now) (length c.before.before.before.before.before.before.before.before.before.before.before.before.before.before.before.before.before.before.before.before.before.before.before.before.before.before.before.before.before.before.before.before.args.marks.now) c.before.before.before.before.before.before.before.before.before.before.before.before.before.before.before.before.before.before.word.ensures c.before.before.before.before.before.before.before.before.before.before.before.before.before.before.before.before.before.word2.ensures c.before.before.before.before.before.before.before.before.before.before.before.before.before.before.before.before.settings_at.ensures c.before.before.before.before.before.before.before.before.before.before.before.before.before.before.before.before.before.before.before.before.before.before.before.before.before.fill_work.ensures c.before.before.before.before.before.before.before.before.before.before.before.before.before.before.before.before.before.before.before.before.before.fill_marks.ensures c.before.before.before.before.before.before.before.before.before.before.before.before.before.find_transform_ecc_euclidean.ensures.0 c.before.before.before.before.before.before.before.before.before.before.before.before.before.find_transform_ecc_euclidean.ensures.1.0 c.before.before.before.before.before.before.before.before.before.before.before.before.before.find_transform_ecc_euclidean.ensures.1.1 _) ∙ ap (λ (z : ℕ). work_agrees z c.before.before.before.before.before.before.before.before.before.before.before.before.before.find_transform_ecc_euclidean.new.1.1.1.1.1.0) (sym c.before.before.before.before.before.word3.ensures) ∙ sym c.before.before.before.before.work_agrees.ensures ∙ not-false _ c.before.before.before.if2.false)) (c.marks_agree.ensures ∙ ap (λ (z : ℕ). marks_agree z c.before.before.before.before.before.before.before.before.before.before.before.before.before.find_transform_ecc_euclidean.new.1.1.1.1.1.1.0) c.before.word4.ensures ∙ marks_told c.before.before.before.before.before.before.before.before.before.before.before.before.before.before.before.before.before.before.before.before.before.before.before.before.before.before.before.before.before.before.before.before.args.words.now c.before.before.before.before.before.before.before.before.before.before.before.before.before.before.before.before.before.before.before.before.before.before.before.before.before.before.before.before.before.before.before.before.args.template.now c.before.before.before.before.before.before.before.before.before.before.before.before.before.before.before.before.before.before.before.before.before.before.before.before.before.before.before.before.before.before.before.before.args.input.now c.before.before.before.before.before.before.before.before.before.before.before.before.before.before.before.before.before.before.before.before.before.before.before.before.before.before.before.before.before.before.before.before.args.at (length c.before.before.before.before.before.before.before.before.before.before.before.before.before.before.before.before.before.before.before.before.before.before.before.before.before.before.before.before.before.before.before.before.args.work.now) (length c.before.before.before.before.before.before.before.before.before.before.before.before.before.before.before.before.before.before.before.before.before.before.before.before.before.before.before.before.before.before.before.before.args.marks.now) c.before.before.before.before.before.before.before.before.before.before.before.before.before.before.before.before.before.before.word.ensures c.before.before.before.before.before.before.before.before.before.before.before.before.before.before.before.before.before.word2.ensures c.before.before.before.before.before.before.before.before.before.before.before.before.before.before.before.before.settings_at.ensures c.before.before.before.before.before.before.before.before.before.before.before.before.before.before.before.before.before.before.before.before.before.before.before.before.before.fill_work.ensures c.before.before.before.before.before.before.before.before.before.before.before.before.before.before.before.before.before.before.before.before.before.fill_marks.ensures c.before.before.before.before.before.before.before.before.before.before.before.before.before.find_transform_ecc_euclidean.ensures.0 c.before.before.before.before.before.before.before.before.before.before.before.before.before.find_transform_ecc_euclidean.ensures.1.0 c.before.before.before.before.before.before.before.before.before.before.before.before.before.find_transform_ecc_euclidean.ensures.1.1 _)
 
 pub called-spec : {M : Type 1} → statement M
 called-spec =

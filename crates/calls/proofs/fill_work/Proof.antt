@@ -39,7 +39,7 @@ loop-less c = omega arith
 loop-again : tie.Need-loop-preserved invariant-loop decreases-loop
 loop-again c =
     let l = c.before.before.loop in
-    (simp length-set (omega arith), simp length-set l.invariant.1, front_turn l.work float_before l.i _ (omega arith) l.invariant.2 c.float-before.ensures)
+    (simp length-set (omega arith), simp length-set l.invariant.1, front_turn l.work float_before l.i _ (omega arith) l.invariant.2 c.float_before.ensures)
 
 same_length : tie.Need-same-length invariant-loop decreases-loop
 same_length c = search rules

@@ -13,7 +13,7 @@ float-before-requires : tie.Need-float-before-requires
 float-before-requires c κs = search rules
 
 returns-2 : tie.Need-returns-2
-returns-2 c = c.float-before.ensures ∙ sym (pick_false _ _ _ (le-ltb _ _ c.before.if1.false))
+returns-2 c = c.float_before.ensures ∙ sym (pick_false _ _ _ (le-ltb _ _ c.before.if1.false))
 
 pub float-after-spec : {M : Type 1} → statement M
 float-after-spec =

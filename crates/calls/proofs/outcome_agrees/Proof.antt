@@ -35,14 +35,14 @@ same-floats-requires c κs = search rules
 
 returns-2 : tie.Need-returns-2
 unfolding outcome_agrees
-returns-2 c = rw (eq-eqb _ _ (c.before.before.before.if1.false ∙ c.before.before.before.before.word.ensures), sym (c.before.same-floats.ensures ∙ ap (λ (m : Matrix3). floats_agree c.before.before.before.before.before.before.before.args.words.now (c.before.before.before.before.before.before.before.args.at + 6) (entries_of m)) c.before.before.before.before.before.matrix-of.ensures) ∙ not-true _ c.if2.true)
+returns-2 c = rw (eq-eqb _ _ (c.before.before.before.if1.false ∙ c.before.before.before.before.word.ensures), sym (c.before.same_floats.ensures ∙ ap (λ (m : Matrix3). floats_agree c.before.before.before.before.before.before.before.args.words.now (c.before.before.before.before.before.before.before.args.at + 6) (entries_of m)) c.before.before.before.before.before.matrix_of.ensures) ∙ not-true _ c.if2.true)
 
 answer-agrees-requires : tie.Need-answer-agrees-requires
 answer-agrees-requires c κs = search rules
 
 returns-3 : tie.Need-returns-3
 unfolding outcome_agrees
-returns-3 c = and_passed (both (eq-eqb _ _ (c.before.before.before.before.if1.false ∙ c.before.before.before.before.before.word.ensures)) (sym (c.before.before.same-floats.ensures ∙ ap (λ (m : Matrix3). floats_agree c.before.before.before.before.before.before.before.before.args.words.now (c.before.before.before.before.before.before.before.before.args.at + 6) (entries_of m)) c.before.before.before.before.before.before.matrix-of.ensures) ∙ not-false _ c.before.if2.false)) c.answer-agrees.ensures
+returns-3 c = and_passed (both (eq-eqb _ _ (c.before.before.before.before.if1.false ∙ c.before.before.before.before.before.word.ensures)) (sym (c.before.before.same_floats.ensures ∙ ap (λ (m : Matrix3). floats_agree c.before.before.before.before.before.before.before.before.args.words.now (c.before.before.before.before.before.before.before.before.args.at + 6) (entries_of m)) c.before.before.before.before.before.before.matrix_of.ensures) ∙ not-false _ c.before.if2.false)) c.answer_agrees.ensures
 
 pub outcome-agrees-spec : {M : Type 1} → statement M
 outcome-agrees-spec =

@@ -20,27 +20,27 @@ use Rattle.calls.proofs.pins_agree.Tie as tie
 told : List ℕ → Pins
 told words = pins_of (answer_at words) (stored_at words 5) (stored_at words 6)
 
-pins : (c : tie.After-pins-of) → c.pins-of.result ≡ told c.before.before.before.before.before.args.words.now
+pins : (c : tie.After-pins-of) → c.pins_of.result ≡ told c.before.before.before.before.before.args.words.now
 unfolding told
-pins c = c.pins-of.ensures ∙ rw (c.before.before.before.answer_at.ensures, c.before.before.word.ensures, c.before.word2.ensures)
+pins c = c.pins_of.ensures ∙ rw (c.before.before.before.answer_at.ensures, c.before.before.word.ensures, c.before.word2.ensures)
 
 first : (c : tie.After-pin-agrees) → let words = c.before.before.before.before.before.before.before.before.before.args.words.now in
-    c.pin-agrees.result ≡ pin_agrees (told words).dx (stored_at words 7) (stored_at words 8)
+    c.pin_agrees.result ≡ pin_agrees (told words).dx (stored_at words 7) (stored_at words 8)
 first c =
     let p = c.before.before.before.before in
-    pin_told c.pin-agrees.ensures (to_z-of_z w16 p.pins-of.result.dx (record { sfits = c.before.struct_told.given.0.1 }) ∙ ap (λ (p : Pins). p.dx) (pins p)) c.before.before.before.word3.ensures c.before.before.word4.ensures
+    pin_told c.pin_agrees.ensures (to_z-of_z w16 p.pins_of.result.dx (record { sfits = c.before.struct_told.given.0.1 }) ∙ ap (λ (p : Pins). p.dx) (pins p)) c.before.before.before.word3.ensures c.before.before.word4.ensures
 
 second : (c : tie.After-pin-agrees2) → let words = c.before.before.before.before.before.before.before.before.before.before.before.before.before.before.args.words.now in
-    c.pin-agrees2.result ≡ pin_agrees (told words).dy (stored_at words 9) (stored_at words 10)
+    c.pin_agrees2.result ≡ pin_agrees (told words).dy (stored_at words 9) (stored_at words 10)
 second c =
     let p = c.before.before.before.before.before.before.before.before.before in
-    pin_told c.pin-agrees2.ensures (to_z-of_z w16 p.pins-of.result.dy (record { sfits = c.before.struct-told2.given.1.0.1 }) ∙ ap (λ (p : Pins). p.dy) (pins p)) c.before.before.before.word5.ensures c.before.before.word6.ensures
+    pin_told c.pin_agrees2.ensures (to_z-of_z w16 p.pins_of.result.dy (record { sfits = c.before.struct-told2.given.1.0.1 }) ∙ ap (λ (p : Pins). p.dy) (pins p)) c.before.before.before.word5.ensures c.before.before.word6.ensures
 
 third : (c : tie.After-pin-agrees3) → let words = c.before.before.before.before.before.before.before.before.before.before.before.before.before.before.before.before.before.before.before.args.words.now in
-    c.pin-agrees3.result ≡ pin_agrees (told words).turn (stored_at words 11) (stored_at words 12)
+    c.pin_agrees3.result ≡ pin_agrees (told words).turn (stored_at words 11) (stored_at words 12)
 third c =
     let p = c.before.before.before.before.before.before.before.before.before.before.before.before.before.before in
-    pin_told c.pin-agrees3.ensures (to_z-of_z w16 p.pins-of.result.turn (record { sfits = c.before.struct-told3.given.1.1.0.1 }) ∙ ap (λ (p : Pins). p.turn) (pins p)) c.before.before.before.word7.ensures c.before.before.word8.ensures
+    pin_told c.pin_agrees3.ensures (to_z-of_z w16 p.pins_of.result.turn (record { sfits = c.before.struct-told3.given.1.1.0.1 }) ∙ ap (λ (p : Pins). p.turn) (pins p)) c.before.before.before.word7.ensures c.before.before.word8.ensures
 
 -- past the first test
 passed : (c : tie.Else1) → let words = c.before.before.before.before.before.before.before.before.before.before.args.words.now in

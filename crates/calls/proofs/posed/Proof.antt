@@ -22,7 +22,7 @@ same-floats-requires : tie.Need-same-floats-requires
 same-floats-requires c κs = search rules
 
 returns-2 : tie.Need-returns-2
-returns-2 c = and_passed (eq-eqb _ 0 (sym c.before.before.before.word.ensures ∙ c.before.before.if1.false)) c.same-floats.ensures
+returns-2 c = and_passed (eq-eqb _ 0 (sym c.before.before.before.word.ensures ∙ c.before.before.if1.false)) c.same_floats.ensures
 
 pub posed-spec : {M : Type 1} → statement M
 posed-spec =

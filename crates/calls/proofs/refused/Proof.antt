@@ -26,7 +26,7 @@ same-floats-requires : tie.Need-same-floats-requires
 same-floats-requires c κs = search rules
 
 returns-3 : tie.Need-returns-3
-returns-3 c = and_passed (both (eq-eqb _ _ (sym c.before.before.before.before.word.ensures ∙ c.before.before.before.if1.false)) (ap not (ne_eqb _ 0 c.before.before.if2.false))) c.same-floats.ensures
+returns-3 c = and_passed (both (eq-eqb _ _ (sym c.before.before.before.before.word.ensures ∙ c.before.before.before.if1.false)) (ap not (ne_eqb _ 0 c.before.before.if2.false))) c.same_floats.ensures
 
 pub refused-spec : {M : Type 1} → statement M
 refused-spec =

@@ -50,8 +50,8 @@ loop-less c = search rules
 loop-again : tie.Need-loop-preserved invariant-loop decreases-loop
 loop-again c =
     let l = c.before.before.before.before.before.before.loop in
-    let first = c.before.before.before.to-bits.ensures in
-    let second = c.before.to-bits2.ensures ∙ ap (toBits binary32) c.before.before.float-after.ensures in
+    let first = c.before.before.before.to_bits.ensures in
+    let second = c.before.to_bits2.ensures ∙ ap (toBits binary32) c.before.before.float_after.ensures in
     (omega arith, ⊎_elim (λ w. w.1 ∙ all_failed _ _ l.invariant.1 (ne_eqb _ _ (λ e. w.0.taken (first ∙ e ∙ sym second)))) (λ w. w.1 ∙ all_passed _ _ l.invariant.1 (eq-eqb _ _ (sym first ∙ w.0.left ∙ second))) c.if1.branch)
 
 returns : tie.Need-returns invariant-loop decreases-loop

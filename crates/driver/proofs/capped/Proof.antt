@@ -8,7 +8,7 @@ use Rattle.driver.proofs.capped.Statement.{statement}
 use Rattle.driver.proofs.capped.Tie as tie
 
 near : (c : tie.After-round) → Rounded c.before.args.x c.round.result
-near c = subst (Rounded c.before.args.x) (sym c.round.ensures) (rounded c.before.args.x (subst T (sym c.before.well-formed.0.1) tt) c.before.requires)
+near c = subst (Rounded c.before.args.x) (sym c.round.ensures) (rounded c.before.args.x (subst T (sym c.before.well_formed.0.1) tt) c.before.requires)
 
 within : (c : tie.Else2) → Inside c.before.before.round.result (near c.before.before).s (near c.before.before).q
 unfolding of_bits neg
@@ -20,9 +20,9 @@ within c =
 number : (c : tie.After-truncating-f32-to-i64) → ℤ
 number c = let n = near c.before.before.before in capped_of n.s n.q
 
-number_is : (c : tie.After-truncating-f32-to-i64) → c.truncating-f32-to-i64.result ≡ number c
+number_is : (c : tie.After-truncating-f32-to-i64) → c.truncating_f32_to_i64.result ≡ number c
 unfolding number
-number_is c = c.truncating-f32-to-i64.ensures ∙ (within c.before).is
+number_is c = c.truncating_f32_to_i64.ensures ∙ (within c.before).is
 
 number_long : (c : tie.After-truncating-f32-to-i64) → SFits w64 (number c)
 unfolding number

@@ -13,8 +13,8 @@ use Rattle.driver.proofs.finite_pins.Statement.{statement}
 use Rattle.driver.proofs.finite_pins.Tie as tie
 
 -- what is known of the matrix
-rows : (c : tie.After-posed-matrix) → Rows c.posed-matrix.result
-rows c = let s = c.before in subst Rows (sym c.posed-matrix.ensures) (rows_posed s.args.theta s.args.tx s.args.ty s.requires.0.1 s.requires.0.2)
+rows : (c : tie.After-posed-matrix) → Rows c.posed_matrix.result
+rows c = let s = c.before in subst Rows (sym c.posed_matrix.ensures) (rows_posed s.args.theta s.args.tx s.args.ty s.requires.0.1 s.requires.0.2)
 
 -- a number as a field of the answer
 same : {r : ℤ} → mag r < 2 ^ 15 → to_z w16 (of_z w16 r) ≡ r
@@ -38,19 +38,19 @@ capped-requires c κs = let s = c.before.before.before in times_number s.args.th
 
 -- the middle's motion by the matrix of the definition
 across : (c : tie.After-motion) → let s = c.before.before in let m = posed_matrix s.args.theta s.args.tx s.args.ty in c.motion.result ≡ motion_of m.m00 s.args.a m.m01 s.args.b m.m02
-across c = let s = c.before.before in cc (c.motion.ensures, c.before.posed-matrix.ensures, diagonal s.args.theta s.args.tx s.args.ty)
+across c = let s = c.before.before in cc (c.motion.ensures, c.before.posed_matrix.ensures, diagonal s.args.theta s.args.tx s.args.ty)
 
 along : (c : tie.After-motion2) → let s = c.before.before.before in let m = posed_matrix s.args.theta s.args.tx s.args.ty in c.motion2.result ≡ motion_of m.m11 s.args.b m.m10 s.args.a m.m12
-along c = let s = c.before.before.before in cc (c.motion2.ensures, c.before.before.posed-matrix.ensures, diagonal s.args.theta s.args.tx s.args.ty)
+along c = let s = c.before.before.before in cc (c.motion2.ensures, c.before.before.posed_matrix.ensures, diagonal s.args.theta s.args.tx s.args.ty)
 
 returns : tie.Need-returns
 unfolding finite_of of_bits
 returns c =
     let s = c.before.before.before.before in
     rw (
-      same c.before.before.motion.type-inv,
-      same c.before.motion2.type-inv,
-      pin_is s.args.theta 13 _ s.well-formed.0.1 s.requires.0.0 c.capped.type-inv c.capped.ensures,
+      same c.before.before.motion.type_inv,
+      same c.before.motion2.type_inv,
+      pin_is s.args.theta 13 _ s.well_formed.0.1 s.requires.0.0 c.capped.type_inv c.capped.ensures,
       across c.before.before,
       along c.before,
     )

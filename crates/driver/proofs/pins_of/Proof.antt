@@ -14,10 +14,10 @@ second_fails : (a b : Bool) → a ≡ true → b ≡ false → (a && b) ≡ fals
 second_fails a b p q = rw (p, q)
 
 wide : (c : tie.Else1) → is_side c.before.before.args.w ≡ true
-wide c = sym c.before.is-side.ensures ∙ not-false _ c.if1.false
+wide c = sym c.before.is_side.ensures ∙ not-false _ c.if1.false
 
 high : (c : tie.Else2) → is_side c.before.before.before.before.args.h ≡ true
-high c = sym c.before.is-side2.ensures ∙ not-false _ c.if2.false
+high c = sym c.before.is_side2.ensures ∙ not-false _ c.if2.false
 
 sides : (c : tie.Else2) → let w = c.before.before.before.before.args.w in let h = c.before.before.before.before.args.h in (1 ≤ w) × (w - 1 ≤ 4095) × (1 ≤ h) × (h - 1 ≤ 4095)
 sides c =
@@ -34,7 +34,7 @@ still-requires c κs = search rules
 returns : tie.Need-returns
 returns c =
     let s = c.before.before in
-    c.still.ensures ∙ sym (no_frame s.before.args.answer _ _ (first_fails _ _ (sym s.is-side.ensures ∙ not-true _ c.before.if1.true)))
+    c.still.ensures ∙ sym (no_frame s.before.args.answer _ _ (first_fails _ _ (sym s.is_side.ensures ∙ not-true _ c.before.if1.true)))
 
 is-side-requires-2 : tie.Need-is-side-requires-2
 is-side-requires-2 c κs = search rules
@@ -45,7 +45,7 @@ still-requires-2 c κs = search rules
 returns-2 : tie.Need-returns-2
 returns-2 c =
     let s = c.before.before in
-    c.still2.ensures ∙ sym (no_frame s.before.before.before.args.answer _ _ (second_fails _ _ (wide s.before) (sym s.is-side2.ensures ∙ not-true _ c.before.if2.true)))
+    c.still2.ensures ∙ sym (no_frame s.before.before.before.args.answer _ _ (second_fails _ _ (wide s.before) (sym s.is_side2.ensures ∙ not-true _ c.before.if2.true)))
 
 enum_told : tie.Need-enum-told
 enum_told c = search rules
@@ -71,7 +71,7 @@ returns-3 c = c.still3.ensures ∙ sym (of_refusal _ _ _ _ c.before.enum_told.gi
 returns-4 : tie.Need-returns-4
 returns-4 c =
     let e = c.before.before.before.before in
-    c.posed-pins.ensures ∙ sym (of_pose _ _ _ _ _ _ _ c.before.before.answer.given.1 (wide e.before.before) (high e))
+    c.posed_pins.ensures ∙ sym (of_pose _ _ _ _ _ _ _ c.before.before.answer.given.1 (wide e.before.before) (high e))
 
 pub pins-of-spec : {M : Type 1} → statement M
 pins-of-spec =

@@ -29,10 +29,10 @@ is_theta : (c : tie.Else1) → finite c.before.before.args.theta ≡ true
 is_theta c = sym c.before.is_finite.ensures ∙ not-false _ c.if1.false
 
 is_tx : (c : tie.Else2) → finite c.before.before.before.before.args.tx ≡ true
-is_tx c = sym c.before.is-finite2.ensures ∙ not-false _ c.if2.false
+is_tx c = sym c.before.is_finite2.ensures ∙ not-false _ c.if2.false
 
 is_ty : (c : tie.Else3) → finite c.before.before.before.before.before.before.args.ty ≡ true
-is_ty c = sym c.before.is-finite3.ensures ∙ not-false _ c.if3.false
+is_ty c = sym c.before.is_finite3.ensures ∙ not-false _ c.if3.false
 
 still_is : (theta tx ty : Float) (a b : ℕ) → (finite theta && finite tx && finite ty) ≡ false → still_of ≡ posed_of theta tx ty a b
 unfolding posed_of
@@ -58,7 +58,7 @@ still-requires-2 c κs = search rules
 returns-2 : tie.Need-returns-2
 returns-2 c =
     let f = c.before.before in
-    c.still2.ensures ∙ still_is _ _ _ _ _ (second_fails _ _ _ (is_theta f.before) (sym f.is-finite2.ensures ∙ not-true _ c.before.if2.true))
+    c.still2.ensures ∙ still_is _ _ _ _ _ (second_fails _ _ _ (is_theta f.before) (sym f.is_finite2.ensures ∙ not-true _ c.before.if2.true))
 
 is-finite-requires-3 : tie.Need-is-finite-requires-3
 is-finite-requires-3 c κs = search rules
@@ -69,7 +69,7 @@ still-requires-3 c κs = search rules
 returns-3 : tie.Need-returns-3
 returns-3 c =
     let f = c.before.before in
-    c.still3.ensures ∙ still_is _ _ _ _ _ (third_fails _ _ _ (is_theta f.before.before.before) (is_tx f.before) (sym f.is-finite3.ensures ∙ not-true _ c.before.if3.true))
+    c.still3.ensures ∙ still_is _ _ _ _ _ (third_fails _ _ _ (is_theta f.before.before.before) (is_tx f.before) (sym f.is_finite3.ensures ∙ not-true _ c.before.if3.true))
 
 finite-pins-requires : tie.Need-finite-pins-requires
 finite-pins-requires c κs =
@@ -79,7 +79,7 @@ returns-4 : tie.Need-returns-4
 unfolding posed_of
 returns-4 c =
     let e = c.before in
-    c.finite-pins.ensures ∙ sym (pick_true _ _ _ (all_pass _ _ _ (is_theta e.before.before.before.before) (is_tx e.before.before) (is_ty e)))
+    c.finite_pins.ensures ∙ sym (pick_true _ _ _ (all_pass _ _ _ (is_theta e.before.before.before.before) (is_tx e.before.before) (is_ty e)))
 
 pub posed-pins-spec : {M : Type 1} → statement M
 posed-pins-spec =

@@ -35,8 +35,8 @@ returns c =
     let a = c.before.before.before.before.before.before.before.before.before.before.before.before.before in
     let xs = a.args.out.now in
     let s = start_bytes (4 + a.args.w * a.args.h) 2 in
-    let p = then_put xs 0 s 6 (half_bytes _) c.before.before.before.before.before.before.before.before.before.before.put-start.ensures c.before.before.before.before.before.before.put-half.ensures (omega arith) (omega (arith, a.requires)) in
-    then_put xs 0 (s ++ half_bytes a.args.w) 8 (half_bytes _) p c.before.before.put-half2.ensures (omega arith) (omega (arith, a.requires)) ∙ ap (put xs 0) (append_assoc s (half_bytes a.args.w) (half_bytes a.args.h))
+    let p = then_put xs 0 s 6 (half_bytes _) c.before.before.before.before.before.before.before.before.before.before.put_start.ensures c.before.before.before.before.before.before.put_half.ensures (omega arith) (omega (arith, a.requires)) in
+    then_put xs 0 (s ++ half_bytes a.args.w) 8 (half_bytes _) p c.before.before.put_half2.ensures (omega arith) (omega (arith, a.requires)) ∙ ap (put xs 0) (append_assoc s (half_bytes a.args.w) (half_bytes a.args.h))
 
 pub put-head-spec : {M : Type 1} → statement M
 put-head-spec =

@@ -36,10 +36,10 @@ returns c =
     let e = s ++ word_bytes a.args.eps in
     let i = e ++ word_bytes a.args.passes in
     let f = i ++ half_bytes a.args.filter in
-    let p1 = then_put xs 0 s 6 (word_bytes _) c.before.before.before.before.before.before.before.before.before.before.before.before.before.before.before.before.before.before.put-start.ensures c.before.before.before.before.before.before.before.before.before.before.before.before.before.before.put_word.ensures (omega arith) (omega (arith, a.requires)) in
-    let p2 = then_put xs 0 e 10 (word_bytes _) p1 c.before.before.before.before.before.before.before.before.before.before.put-word2.ensures (omega arith) (omega (arith, a.requires)) in
-    let p3 = then_put xs 0 i 14 (half_bytes _) p2 c.before.before.before.before.before.before.put-half.ensures (omega arith) (omega (arith, a.requires)) in
-    then_put xs 0 f 16 (word_bytes _) p3 c.before.before.put-word3.ensures (omega arith) (omega (arith, a.requires)) ∙ ap (put xs 0) (simp append_assoc)
+    let p1 = then_put xs 0 s 6 (word_bytes _) c.before.before.before.before.before.before.before.before.before.before.before.before.before.before.before.before.before.before.put_start.ensures c.before.before.before.before.before.before.before.before.before.before.before.before.before.before.put_word.ensures (omega arith) (omega (arith, a.requires)) in
+    let p2 = then_put xs 0 e 10 (word_bytes _) p1 c.before.before.before.before.before.before.before.before.before.before.put_word2.ensures (omega arith) (omega (arith, a.requires)) in
+    let p3 = then_put xs 0 i 14 (half_bytes _) p2 c.before.before.before.before.before.before.put_half.ensures (omega arith) (omega (arith, a.requires)) in
+    then_put xs 0 f 16 (word_bytes _) p3 c.before.before.put_word3.ensures (omega arith) (omega (arith, a.requires)) ∙ ap (put xs 0) (simp append_assoc)
 
 pub put-settings-spec : {M : Type 1} → statement M
 put-settings-spec =

@@ -22,7 +22,7 @@ returns : tie.Need-returns
 unfolding start_bytes word_bytes half_bytes
 returns c =
     let a = c.before.before.before.before.before.before.before.before.before in
-    then_put a.args.out.now 0 (word_bytes _) 4 (half_bytes _) c.before.before.before.before.before.before.put_word.ensures c.before.before.put-half.ensures (omega arith) (omega (arith, a.requires))
+    then_put a.args.out.now 0 (word_bytes _) 4 (half_bytes _) c.before.before.before.before.before.before.put_word.ensures c.before.before.put_half.ensures (omega arith) (omega (arith, a.requires))
 
 pub put-start-spec : {M : Type 1} → statement M
 put-start-spec =

@@ -22,7 +22,7 @@ returns : tie.Need-returns
 unfolding word_bytes half_bytes
 returns c =
     let a = c.before.before.before.before.before.before.before.before.before in
-    then_put a.args.out.now a.args.at (half_bytes a.args.n) _ (half_bytes _) c.before.before.before.before.before.before.put-half.ensures c.before.before.put-half2.ensures (omega arith) (omega (arith, a.requires))
+    then_put a.args.out.now a.args.at (half_bytes a.args.n) _ (half_bytes _) c.before.before.before.before.before.before.put_half.ensures c.before.before.put_half2.ensures (omega arith) (omega (arith, a.requires))
 
 pub put-word-spec : {M : Type 1} → statement M
 put-word-spec =

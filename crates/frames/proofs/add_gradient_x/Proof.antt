@@ -39,7 +39,7 @@ returns c =
     let a = d.before.before.before.args in
     let n = a.w * a.h in
     let xs = a.work.now in
-    step_back (gradient_x a.w a.h) n 2 0 1 (length xs - 2 * n) xs _ d.gradient-x.ensures (length_gradient_x a.w a.h) (omega arith) (omega arith) (omega arith)
+    step_back (gradient_x a.w a.h) n 2 0 1 (length xs - 2 * n) xs _ d.gradient_x.ensures (length_gradient_x a.w a.h) (omega arith) (omega arith) (omega arith)
 
 pub add-gradient-x-spec : {M : Type 1} → statement M
 add-gradient-x-spec =

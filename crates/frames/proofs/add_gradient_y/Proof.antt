@@ -39,7 +39,7 @@ returns c =
     let a = d.before.before.before.args in
     let n = a.w * a.h in
     let xs = a.work.now in
-    step_back (gradient_y a.w a.h) n 2 0 2 (length xs - 2 * n) xs _ d.gradient-y.ensures (length_gradient_y a.w a.h) (omega arith) (omega arith) (omega arith)
+    step_back (gradient_y a.w a.h) n 2 0 2 (length xs - 2 * n) xs _ d.gradient_y.ensures (length_gradient_y a.w a.h) (omega arith) (omega arith) (omega arith)
 
 pub add-gradient-y-spec : {M : Type 1} → statement M
 add-gradient-y-spec =

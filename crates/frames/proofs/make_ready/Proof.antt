@@ -28,7 +28,7 @@ returns c =
     let p = q.before.before.before.before in
     let s = p.before.before.before.before.before in
     let a = s.args in
-    rw (y.add-gradient-y.ensures, x.add-gradient-x.ensures, q.prepare2.ensures, p.prepare.ensures)
+    rw (y.add_gradient_y.ensures, x.add_gradient_x.ensures, q.prepare2.ensures, p.prepare.ensures)
     (is_ready a.template.now a.input.now a.w a.h a.tw a.th a.ksize a.work.now (omega arith) (omega arith) (omega arith) (omega arith))
 
 pub make-ready-spec : {M : Type 1} → statement M

@@ -18,7 +18,7 @@ number-of-requires c κs = search rules
 returns : tie.Need-returns
 unfolding line_of
 returns c =
-    let p = c.before.before.pins-of in
+    let p = c.before.before.pins_of in
     let g = c.struct_told.given in
     rw (
       c.before.number_of_lem.ensures,

@@ -16,9 +16,9 @@ use Rattle.options.proofs.behind.Tie as tie
 found : (c : tie.After-digits-at) → Digits
 found c = digits_at c.before.before.args.s.now c.before.before.args.at c.before.before.args.before 16777217
 
-ends : (c : tie.After-digits-at) → c.digits-at.result.next ≡ (found c).next
+ends : (c : tie.After-digits-at) → c.digits_at.result.next ≡ (found c).next
 unfolding found
-ends c = ap (λ (z : Digits). z.next) c.digits-at.ensures
+ends c = ap (λ (z : Digits). z.next) c.digits_at.ensures
 
 digits-at-requires : tie.Need-digits-at-requires
 digits-at-requires c κs = search rules
@@ -50,7 +50,7 @@ returns-2 c =
     let d = c.before.before.before.before in
     let a = d.before.before.args in
     c.tail.ensures
-    ∙ ap (λ (z : Digits). tail_of a.s.now z.next z.value (z.next - a.at)) d.digits-at.ensures
+    ∙ ap (λ (z : Digits). tail_of a.s.now z.next z.value (z.next - a.at)) d.digits_at.ensures
     ∙ sym (pick_true _ _ _ (lt-ltb (a.first + 1) (found d).next (omega (arith, ends d))))
 
 pub behind-spec : {M : Type 1} → statement M

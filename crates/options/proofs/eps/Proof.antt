@@ -21,11 +21,11 @@ use Rattle.options.proofs.eps.Tie as tie
 found : (c : tie.After-digits-at) → Digits
 found c = digits_at c.before.before.args.s.now c.before.before.args.at 0 16777217
 
-ends : (c : tie.After-digits-at) → c.digits-at.result.next ≡ (found c).next
+ends : (c : tie.After-digits-at) → c.digits_at.result.next ≡ (found c).next
 unfolding found
-ends c = ap (λ (z : Digits). z.next) c.digits-at.ensures
+ends c = ap (λ (z : Digits). z.next) c.digits_at.ensures
 
-within : (c : tie.After-digits-at) → c.digits-at.result.next ≤ length c.before.before.args.s.now
+within : (c : tie.After-digits-at) → c.digits_at.result.next ≤ length c.before.before.args.s.now
 unfolding found
 within c = omega (arith, ends c, next_most c.before.before.args.s.now c.before.before.args.at 0 16777217 c.before.before.requires)
 
@@ -51,9 +51,9 @@ behind-requires c κs =
     let d = c.before.before.before.before in
     let s = d.before.before.args.s.now in
     let a = d.before.before.args.at in
-    let n = d.digits-at.result.next in
+    let n = d.digits_at.result.next in
     let h : 1 ≤ length (drop n s) = begins_long (drop n s) (46 ∷ []) (sym c.before.before.stands.ensures ∙ c.before.if1.true) in
-    let v : d.digits-at.result.value ≡ (digits_at s a 0 16777217).value = ap (λ (z : Digits). z.value) d.digits-at.ensures in
+    let v : d.digits_at.result.value ≡ (digits_at s a 0 16777217).value = ap (λ (z : Digits). z.value) d.digits_at.ensures in
     (omega (arith, ends d, next_least s a 0 16777217), omega (arith, length-drop n s, within d), omega (arith, value_held s a 0 16777217))
 
 returns : tie.Need-returns
@@ -62,7 +62,7 @@ returns c =
     let d = c.before.before.before.before.before in
     let a = d.before.before.args in
     c.behind.ensures
-    ∙ ap (λ (z : Digits). behind_of a.s.now a.at (z.next + 1) z.value) d.digits-at.ensures
+    ∙ ap (λ (z : Digits). behind_of a.s.now a.at (z.next + 1) z.value) d.digits_at.ensures
     ∙ sym (pick_true _ _ _ (dot c.before.before.before true c.before.before.if1.true))
 
 returns-2 : tie.Need-returns-2
@@ -82,7 +82,7 @@ returns-3 c =
     let d = c.before.before.before.before.before.before in
     let a = d.before.before.args in
     c.tail.ensures
-    ∙ ap (λ (z : Digits). tail_of a.s.now z.next z.value 0) d.digits-at.ensures
+    ∙ ap (λ (z : Digits). tail_of a.s.now z.next z.value 0) d.digits_at.ensures
     ∙ sym
     (pick_false _ _ _ (dot c.before.before.before.before false c.before.before.before.if1.false)
     ∙ pick_true _ _ _ (lt-ltb a.at (found d).next (omega (arith, ends d))))

@@ -21,12 +21,12 @@ digits-at-requires c κs = search rules
 
 returns-2 : tie.Need-returns-2
 unfolding exponent_of
-returns-2 c = sym (pick_true _ _ _ (lt-ltb _ _ c.before.before.before.if1.false) ∙ pick_false _ _ _ (ne_eqb _ _ (λ e. c.if2.true (ap (λ (z : Digits). z.next) c.before.before.digits-at.ensures ∙ e))))
+returns-2 c = sym (pick_true _ _ _ (lt-ltb _ _ c.before.before.before.if1.false) ∙ pick_false _ _ _ (ne_eqb _ _ (λ e. c.if2.true (ap (λ (z : Digits). z.next) c.before.before.digits_at.ensures ∙ e))))
 
 add-ratio : tie.Need-overflow-add-ratio
 add-ratio c =
     let a = c.before.before.before.before.before.before.args in
-    let v : c.before.before.before.digits-at.result.value ≡ (digits_at a.s.now a.at 0 8).value = ap (λ (z : Digits). z.value) c.before.before.before.digits-at.ensures in
+    let v : c.before.before.before.digits_at.result.value ≡ (digits_at a.s.now a.at 0 8).value = ap (λ (z : Digits). z.value) c.before.before.before.digits_at.ensures in
     omega (arith, value_held a.s.now a.at 0 8)
 
 ratio-requires : tie.Need-ratio-requires
@@ -36,7 +36,7 @@ returns-3 : tie.Need-returns-3
 unfolding exponent_of
 returns-3 c =
     let a = c.before.before.before.before.before.before.before.args in
-    let d = c.before.before.before.before.digits-at.ensures in
+    let d = c.before.before.before.before.digits_at.ensures in
     c.ratio.ensures
     ∙ ap (λ (z : Digits). ratio_of a.n (a.k + z.value)) d
     ∙ sym (pick_true _ _ _ (lt-ltb _ _ c.before.before.before.before.before.if1.false) ∙ pick_true _ _ _ (eq-eqb _ _ (sym (ap (λ (z : Digits). z.next) d) ∙ c.before.before.if2.false)))

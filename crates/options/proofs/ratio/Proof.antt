@@ -36,7 +36,7 @@ cast-t9 c = search rules
 
 returns-3 : tie.Need-returns-3
 unfolding ratio_of
-returns-3 c = ap Is (c.to-bits.ensures ∙ ap (toBits binary32) (quotient c.before.before.before.before.before.before.args.n c.before.before.before.before.before.before.args.k c.before.before.power.result c.before.before.before.before.if2.false c.before.before.before.before.before.if1.false c.before.before.power.ensures.0 c.before.before.before.to-f32.ensures c.before.to-f322.ensures)) ∙ sym (pick_true _ _ _ (le-leb _ _ c.before.before.before.before.before.if1.false) ∙ pick_true _ _ _ (le-leb _ _ c.before.before.before.before.if2.false))
+returns-3 c = ap Is (c.to_bits.ensures ∙ ap (toBits binary32) (quotient c.before.before.before.before.before.before.args.n c.before.before.before.before.before.before.args.k c.before.before.power.result c.before.before.before.before.if2.false c.before.before.before.before.before.if1.false c.before.before.power.ensures.0 c.before.before.before.to_f32.ensures c.before.to-f322.ensures)) ∙ sym (pick_true _ _ _ (le-leb _ _ c.before.before.before.before.before.if1.false) ∙ pick_true _ _ _ (le-leb _ _ c.before.before.before.before.if2.false))
 
 pub ratio-spec : {M : Type 1} → statement M
 ratio-spec =

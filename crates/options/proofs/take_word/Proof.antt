@@ -20,7 +20,7 @@ with-eps-requires c κs =
 
 returns : tie.Need-returns
 unfolding word_of
-returns c = c.with-eps.ensures ∙ sym (pick_true _ _ _ (sym c.before.before.begins.ensures ∙ c.before.if1.true))
+returns c = c.with_eps.ensures ∙ sym (pick_true _ _ _ (sym c.before.before.begins.ensures ∙ c.before.if1.true))
 
 slice-aggregate-begins-2 : tie.Need-slice-aggregate-begins-2
 slice-aggregate-begins-2 c = search rules
@@ -33,7 +33,7 @@ with-passes-requires c κs = search rules
 
 returns-2 : tie.Need-returns-2
 unfolding word_of
-returns-2 c = c.with-passes.ensures ∙ sym (pick_false _ _ _ (sym c.before.before.before.before.before.begins.ensures ∙ c.before.before.before.before.if1.false) ∙ pick_true _ _ _ (sym c.before.before.begins2.ensures ∙ c.before.if2.true))
+returns-2 c = c.with_passes.ensures ∙ sym (pick_false _ _ _ (sym c.before.before.before.before.before.begins.ensures ∙ c.before.before.before.before.if1.false) ∙ pick_true _ _ _ (sym c.before.before.begins2.ensures ∙ c.before.if2.true))
 
 slice-aggregate-begins-3 : tie.Need-slice-aggregate-begins-3
 slice-aggregate-begins-3 c = search rules
@@ -46,7 +46,7 @@ with-filter-requires c κs = search rules
 
 returns-3 : tie.Need-returns-3
 unfolding word_of
-returns-3 c = c.with-filter.ensures ∙ sym (pick_false _ _ _ (sym c.before.before.before.before.before.before.before.before.begins.ensures ∙ c.before.before.before.before.before.before.before.if1.false) ∙ pick_false _ _ _ (sym c.before.before.before.before.before.begins2.ensures ∙ c.before.before.before.before.if2.false) ∙ pick_true _ _ _ (sym c.before.before.begins3.ensures ∙ c.before.if3.true))
+returns-3 c = c.with_filter.ensures ∙ sym (pick_false _ _ _ (sym c.before.before.before.before.before.before.before.before.begins.ensures ∙ c.before.before.before.before.before.before.before.if1.false) ∙ pick_false _ _ _ (sym c.before.before.before.before.before.begins2.ensures ∙ c.before.before.before.before.if2.false) ∙ pick_true _ _ _ (sym c.before.before.begins3.ensures ∙ c.before.if3.true))
 
 slice-aggregate-begins-4 : tie.Need-slice-aggregate-begins-4
 slice-aggregate-begins-4 c = search rules
@@ -59,7 +59,7 @@ with-edge-requires c κs = search rules
 
 returns-4 : tie.Need-returns-4
 unfolding word_of
-returns-4 c = c.with-edge.ensures ∙ sym (pick_false _ _ _ (sym c.before.before.before.before.before.before.before.before.before.before.before.begins.ensures ∙ c.before.before.before.before.before.before.before.before.before.before.if1.false) ∙ pick_false _ _ _ (sym c.before.before.before.before.before.before.before.before.begins2.ensures ∙ c.before.before.before.before.before.before.before.if2.false) ∙ pick_false _ _ _ (sym c.before.before.before.before.before.begins3.ensures ∙ c.before.before.before.before.if3.false) ∙ pick_true _ _ _ (sym c.before.before.begins4.ensures ∙ c.before.if4.true))
+returns-4 c = c.with_edge.ensures ∙ sym (pick_false _ _ _ (sym c.before.before.before.before.before.before.before.before.before.before.before.begins.ensures ∙ c.before.before.before.before.before.before.before.before.before.before.if1.false) ∙ pick_false _ _ _ (sym c.before.before.before.before.before.before.before.before.begins2.ensures ∙ c.before.before.before.before.before.before.before.if2.false) ∙ pick_false _ _ _ (sym c.before.before.before.before.before.begins3.ensures ∙ c.before.before.before.before.if3.false) ∙ pick_true _ _ _ (sym c.before.before.begins4.ensures ∙ c.before.if4.true))
 
 other-requires : tie.Need-other-requires
 other-requires c κs = search rules

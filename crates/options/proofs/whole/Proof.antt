@@ -22,15 +22,15 @@ digits-at-requires c κs = search rules
 
 returns-2 : tie.Need-returns-2
 unfolding whole_of
-returns-2 c = sym (pick_true _ _ _ (lt-ltb _ _ c.before.before.before.if1.false) ∙ pick_false _ _ _ (ne_eqb _ _ (λ e. c.if2.true (ap (λ (z : Digits). z.next) c.before.before.digits-at.ensures ∙ e))))
+returns-2 c = sym (pick_true _ _ _ (lt-ltb _ _ c.before.before.before.if1.false) ∙ pick_false _ _ _ (ne_eqb _ _ (λ e. c.if2.true (ap (λ (z : Digits). z.next) c.before.before.digits_at.ensures ∙ e))))
 
 returns-3 : tie.Need-returns-3
 unfolding whole_of
-returns-3 c = sym (pick_true _ _ _ (lt-ltb _ _ c.before.before.before.before.before.if1.false) ∙ pick_true _ _ _ (eq-eqb _ _ (sym (ap (λ (z : Digits). z.next) c.before.before.before.before.digits-at.ensures) ∙ c.before.before.if2.false)) ∙ pick_false _ _ _ (ap (λ (z : Digits). leb z.value c.before.before.before.before.before.before.before.args.most) (sym c.before.before.before.before.digits-at.ensures) ∙ lt-leb _ _ c.if3.true))
+returns-3 c = sym (pick_true _ _ _ (lt-ltb _ _ c.before.before.before.before.before.if1.false) ∙ pick_true _ _ _ (eq-eqb _ _ (sym (ap (λ (z : Digits). z.next) c.before.before.before.before.digits_at.ensures) ∙ c.before.before.if2.false)) ∙ pick_false _ _ _ (ap (λ (z : Digits). leb z.value c.before.before.before.before.before.before.before.args.most) (sym c.before.before.before.before.digits_at.ensures) ∙ lt-leb _ _ c.if3.true))
 
 returns-4 : tie.Need-returns-4
 unfolding whole_of
-returns-4 c = ap (λ (z : Digits). Is z.value) c.before.before.before.before.digits-at.ensures ∙ sym (pick_true _ _ _ (lt-ltb _ _ c.before.before.before.before.before.if1.false) ∙ pick_true _ _ _ (eq-eqb _ _ (sym (ap (λ (z : Digits). z.next) c.before.before.before.before.digits-at.ensures) ∙ c.before.before.if2.false)) ∙ pick_true _ _ _ (ap (λ (z : Digits). leb z.value c.before.before.before.before.before.before.before.args.most) (sym c.before.before.before.before.digits-at.ensures) ∙ le-leb _ _ c.if3.false))
+returns-4 c = ap (λ (z : Digits). Is z.value) c.before.before.before.before.digits_at.ensures ∙ sym (pick_true _ _ _ (lt-ltb _ _ c.before.before.before.before.before.if1.false) ∙ pick_true _ _ _ (eq-eqb _ _ (sym (ap (λ (z : Digits). z.next) c.before.before.before.before.digits_at.ensures) ∙ c.before.before.if2.false)) ∙ pick_true _ _ _ (ap (λ (z : Digits). leb z.value c.before.before.before.before.before.before.before.args.most) (sym c.before.before.before.before.digits_at.ensures) ∙ le-leb _ _ c.if3.false))
 
 pub whole-spec : {M : Type 1} → statement M
 whole-spec =

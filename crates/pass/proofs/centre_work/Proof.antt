@@ -31,7 +31,7 @@ returns c =
     let z = c.before.before in
     let g = z.before.before.before.before in
     let a = g.args in
-    let o = z.centered-stats-in-place in
+    let o = z.centered_stats_in_place in
     centre_back (unpacked_of a.marks.now a.n) a.n a.work.now g.requires.2.images _ _ o.auto.0 o.ensures
 
 pub centre-work-spec : {M : Type 1} → statement M

@@ -19,13 +19,13 @@ abbrev begun : tie.After-warp-work → tie.Start
 begun z = (mapped z).before.before.before
 
 -- the warp leaves what a pass reads, and the words past those of the n marks
-kept : (z : tie.After-warp-work) → let a = (begun z).args in Kept (a.w * a.h) a.work.now z.warp-work.new.0
+kept : (z : tie.After-warp-work) → let a = (begun z).args in Kept (a.w * a.h) a.work.now z.warp_work.new.0
 kept z =
     let a = (begun z).args in
-    kept_warp (mapped z).affine-from-theta-tx-ty.result a.w a.h a.work.now (begun z).requires.1.images _ z.warp-work.ensures.0
+    kept_warp (mapped z).affine_from_theta_tx_ty.result a.w a.h a.work.now (begun z).requires.1.images _ z.warp_work.ensures.0
 
-stay : (z : tie.After-warp-work) → let a = (begun z).args in KeptMarks (a.w * a.h) a.marks.now z.warp-work.new.1.0
-stay z = kept_marks _ _ _ _ _ (begun z).requires.1.places z.warp-work.ensures.1.0
+stay : (z : tie.After-warp-work) → let a = (begun z).args in KeptMarks (a.w * a.h) a.marks.now z.warp_work.new.1.0
+stay z = kept_marks _ _ _ _ _ (begun z).requires.1.places z.warp_work.ensures.1.0
 
 affine-from-theta-tx-ty-requires : tie.Need-affine-from-theta-tx-ty-requires
 affine-from-theta-tx-ty-requires c κs = search rules
@@ -48,7 +48,7 @@ same-length-2 c = search rules
 returns : tie.Need-returns
 returns c =
     let z = c.before.before.before.before.before.before in
-    (no_marks _ _ _ _ _ _ _ _ _ _ (mapped z).affine-from-theta-tx-ty.ensures _ z.warp-work.ensures.1.1.1 c.enum_told.given.1, (kept z, stay z))
+    (no_marks _ _ _ _ _ _ _ _ _ _ (mapped z).affine_from_theta_tx_ty.ensures _ z.warp_work.ensures.1.1.1 c.enum_told.given.1, (kept z, stay z))
 
 same-length-3 : tie.Need-same-length-3
 same-length-3 c = search rules
@@ -59,13 +59,13 @@ same-length-4 c = search rules
 returns-2 : tie.Need-returns-2
 returns-2 c =
     let z = c.before.before.before.before.before.before.before.before.before in
-    (few_marks _ _ _ _ _ _ _ _ _ _ (mapped z).affine-from-theta-tx-ty.ensures _ z.warp-work.ensures.1.1.0 c.if1.true, (kept z, stay z))
+    (few_marks _ _ _ _ _ _ _ _ _ _ (mapped z).affine_from_theta_tx_ty.ensures _ z.warp_work.ensures.1.1.0 c.if1.true, (kept z, stay z))
 
 weigh-requires : tie.Need-weigh-requires
 weigh-requires c κs =
     let z = c.before.before.before.before.before.before.before.before.before.before.before in
     let q = (begun z).requires in
-    let e = z.warp-work.ensures in (
+    let e = z.warp_work.ensures in (
       q.0,
       record { images = omega (arith, (kept z).size, q.1.images); places = omega (arith, (stay z).size, q.1.places) },
       rows_front _ _ _ _ _ q.1.places e.1.0 _ _ e.1.1.1 c.before.before.before.before.before.marked.given.1,
@@ -85,10 +85,10 @@ returns-3 c =
     let z = c.before.before.before.before.before.before.before.before.before.before.before.before.before.before in
     let a = (begun z).args in
     let f = (begun z).requires.1 in
-    let m = z.warp-work.ensures in (
-      enough_marks _ _ _ _ _ _ _ _ _ _ (mapped z).affine-from-theta-tx-ty.ensures _ m.1.1.0 v.before.before.before.if1.false
+    let m = z.warp_work.ensures in (
+      enough_marks _ _ _ _ _ _ _ _ _ _ (mapped z).affine_from_theta_tx_ty.ensures _ m.1.1.0 v.before.before.before.if1.false
           _
-          (weighed_there (mapped z).affine-from-theta-tx-ty.result a.w a.h a.work.now f.images _ m.0 _ (front _ _ _ _ _ f.places m.1.0) a.eps a.at a.last _ v.weigh.ensures.0),
+          (weighed_there (mapped z).affine_from_theta_tx_ty.result a.w a.h a.work.now f.images _ m.0 _ (front _ _ _ _ _ f.places m.1.0) a.eps a.at a.last _ v.weigh.ensures.0),
       (kept_kept (kept z) v.weigh.ensures.1, stay z),
     )
 

@@ -36,7 +36,7 @@ returns c =
     let z = c.before.before.before.before in
     let g = z.before.before.before.before.before in
     let a = g.args in
-    let q = z.warp-three-inverse-map.ensures in
+    let q = z.warp_three_inverse_map.ensures in
     (warp_back a.map a.w a.h a.work.now g.requires.1.images _ q.images, (q.marked, (q.counted, q.rows)))
 
 pub warp-work-spec : {M : Type 1} → statement M

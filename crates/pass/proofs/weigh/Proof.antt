@@ -16,12 +16,12 @@ abbrev begun : tie.After-centre-work → tie.Start
 begun z = z.before.before.before.before.before
 
 -- the centred images leave what a pass reads
-kept : (z : tie.After-centre-work) → let a = (begun z).args in Kept (a.w * a.h) a.work.now z.centre-work.new.0
+kept : (z : tie.After-centre-work) → let a = (begun z).args in Kept (a.w * a.h) a.work.now z.centre_work.new.0
 kept z =
     let g = begun z in
     let a = g.args in
     let n = a.w * a.h in
-    kept_centre (unpacked_of a.marks.now n) a.w a.h a.work.now g.pre.1.images _ z.centre-work.auto.0 _ z.centre-work.ensures
+    kept_centre (unpacked_of a.marks.now n) a.w a.h a.work.now g.pre.1.images _ z.centre_work.auto.0 _ z.centre_work.ensures
 
 mul-n : tie.Need-overflow-mul-n
 mul-n c = search rules
@@ -62,7 +62,7 @@ returns : tie.Need-returns
 returns c =
     let j = c.before.before.before in
     let z = j.before.before.before in
-    (on_bad _ _ _ _ _ _ _ _ _ _ _ z.centre-work.ensures.answer _ j.judge.ensures _ c.before.number.given.1, kept z)
+    (on_bad _ _ _ _ _ _ _ _ _ _ _ z.centre_work.ensures.answer _ j.judge.ensures _ c.before.number.given.1, kept z)
 
 same-length-2 : tie.Need-same-length-2
 same-length-2 c = search rules
@@ -71,7 +71,7 @@ returns-2 : tie.Need-returns-2
 returns-2 c =
     let j = c.before.before.before in
     let z = j.before.before.before in
-    (on_settled _ _ _ _ _ _ _ _ _ _ _ z.centre-work.ensures.answer _ j.judge.ensures _ c.before.rho.given.1, kept z)
+    (on_settled _ _ _ _ _ _ _ _ _ _ _ z.centre_work.ensures.answer _ j.judge.ensures _ c.before.rho.given.1, kept z)
 
 same-length-3 : tie.Need-same-length-3
 same-length-3 c = search rules
@@ -85,11 +85,11 @@ returns-3 c =
     let g = begun z in
     let a = g.args in
     let ms = unpacked_of a.marks.now (a.w * a.h) in
-    let size = z.centre-work.auto.0 in
-    let q = z.centre-work.ensures in (
+    let size = z.centre_work.auto.0 in
+    let q = z.centre_work.ensures in (
       on_unsettled _ _ _ _ _ _ _ _ _ _ _ q.answer _ j.judge.ensures _ k.rho2.given.1 _
-          (solved_there ms a.w a.h a.work.now g.pre.1.images _ size _ q a.at _ _ v.solve-work.ensures.1),
-      kept_solve ms a.w a.h a.work.now g.pre.1.images _ size _ q _ v.solve-work.auto.0 v.solve-work.ensures.0,
+          (solved_there ms a.w a.h a.work.now g.pre.1.images _ size _ q a.at _ _ v.solve_work.ensures.1),
+      kept_solve ms a.w a.h a.work.now g.pre.1.images _ size _ q _ v.solve_work.auto.0 v.solve_work.ensures.0,
     )
 
 pub weigh-spec : {M : Type 1} → statement M

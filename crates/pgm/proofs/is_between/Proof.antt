@@ -21,7 +21,7 @@ is-blank-requires c κs = search rules
 
 returns-3 : tie.Need-returns-3
 unfolding between
-returns-3 c = c.is-blank.ensures ∙ or_no _ (ne_eqb _ _ c.before.if2.false) ∙ sym (ap (λ (t : Bool). between t c.before.before.before.args.b) c.before.before.if1.false)
+returns-3 c = c.is_blank.ensures ∙ or_no _ (ne_eqb _ _ c.before.if2.false) ∙ sym (ap (λ (t : Bool). between t c.before.before.before.args.b) c.before.before.if1.false)
 
 pub is-between-spec : {M : Type 1} → statement M
 is-between-spec = tie.close (tie.spec returns returns-2 is-blank-requires returns-3)

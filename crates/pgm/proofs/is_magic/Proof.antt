@@ -23,7 +23,7 @@ is-kind-requires c κs = search rules
 
 returns-2 : tie.Need-returns-2
 unfolding magic
-returns-2 c = and_no _ (ap kind (sym c.before.before.byte-at2.ensures) ∙ sym c.before.is-kind.ensures ∙ not-true _ c.if2.true) ∙ and_yes _ (eq-eqb _ _ (sym c.before.before.before.before.byte_at.ensures ∙ c.before.before.before.if1.false))
+returns-2 c = and_no _ (ap kind (sym c.before.before.byte_at2.ensures) ∙ sym c.before.is_kind.ensures ∙ not-true _ c.if2.true) ∙ and_yes _ (eq-eqb _ _ (sym c.before.before.before.before.byte_at.ensures ∙ c.before.before.before.if1.false))
 
 byte-at-requires-3 : tie.Need-byte-at-requires-3
 byte-at-requires-3 c κs = search rules
@@ -33,7 +33,7 @@ is-between-requires c κs = search rules
 
 returns-3 : tie.Need-returns-3
 unfolding magic
-returns-3 c = c.is-between.ensures ∙ ap (between false) c.before.byte-at3.ensures ∙ and_yes _ (ap kind (sym c.before.before.before.before.byte-at2.ensures) ∙ sym c.before.before.before.is-kind.ensures ∙ not-false _ c.before.before.if2.false) ∙ and_yes _ (eq-eqb _ _ (sym c.before.before.before.before.before.before.byte_at.ensures ∙ c.before.before.before.before.before.if1.false))
+returns-3 c = c.is_between.ensures ∙ ap (between false) c.before.byte_at3.ensures ∙ and_yes _ (ap kind (sym c.before.before.before.before.byte_at2.ensures) ∙ sym c.before.before.before.is_kind.ensures ∙ not-false _ c.before.before.if2.false) ∙ and_yes _ (eq-eqb _ _ (sym c.before.before.before.before.before.before.byte_at.ensures ∙ c.before.before.before.before.before.if1.false))
 
 pub is-magic-spec : {M : Type 1} → statement M
 is-magic-spec =

@@ -27,7 +27,7 @@ digits-at-requires c κs = search rules
 
 returns-2 : tie.Need-returns-2
 unfolding number_at digits_from
-returns-2 c = ap Number c.digits-at.ensures ∙ sym (pick_true _ _ _ (ap is_digit (sym c.before.before.before.byte_at.ensures) ∙ sym c.before.before.is_digit.ensures ∙ not-false _ c.before.if1.false)) ∙ ap (digits_from c.before.before.before.before.before.before.args.s.now) c.before.before.before.before.skip.ensures
+returns-2 c = ap Number c.digits_at.ensures ∙ sym (pick_true _ _ _ (ap is_digit (sym c.before.before.before.byte_at.ensures) ∙ sym c.before.before.is_digit.ensures ∙ not-false _ c.before.if1.false)) ∙ ap (digits_from c.before.before.before.before.before.before.args.s.now) c.before.before.before.before.skip.ensures
 
 pub number-spec : {M : Type 1} → statement M
 number-spec =

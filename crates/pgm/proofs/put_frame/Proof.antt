@@ -20,13 +20,13 @@ enum-known-found-2 : tie.Need-enum-known-found-2
 enum-known-found-2 c = search rules
 
 put-read-requires : tie.Need-put-read-requires
-put-read-requires c κs = sides _ _ _ _ _ (subst Right (sym c.before.before.before.before.read-header.ensures ∙ c.before.before.found2.given.1) (right c.before.before.before.before.before.before.before.args.s.now))
+put-read-requires c κs = sides _ _ _ _ _ (subst Right (sym c.before.before.before.before.read_header.ensures ∙ c.before.before.found2.given.1) (right c.before.before.before.before.before.before.before.args.s.now))
 
 returns : tie.Need-returns
 unfolding made_of record_of
 returns c =
     let g = c.before.before.before.before.before.before.args in
-    let e = sym c.before.before.before.read-header.ensures ∙ c.before.found.given.1 in
+    let e = sym c.before.before.before.read_header.ensures ∙ c.before.found.given.1 in
     (sym (ap (made_of g.s.now (length g.out.now)) e), sym (ap (λ (z : Header). put g.out.now 0 (record_of g.s.now (length g.out.now) z)) e ∙ put_none g.out.now 0))
 
 same_length : tie.Need-same-length
@@ -35,8 +35,8 @@ same_length c = search rules
 returns-2 : tie.Need-returns-2
 returns-2 c =
     let g = c.before.before.before.before.before.before.before.before.before.before.args in
-    let e = sym c.before.before.before.before.before.before.before.read-header.ensures ∙ c.before.before.before.before.before.found2.given.1 in
-    let p = c.before.before.put-read in
+    let e = sym c.before.before.before.before.before.before.before.read_header.ensures ∙ c.before.before.before.before.before.found2.given.1 in
+    let p = c.before.before.put_read in
     (p.ensures.0 ∙ sym (ap (made_of g.s.now (length g.out.now)) e), p.ensures.1 ∙ sym (ap (λ (z : Header). put g.out.now 0 (record_of g.s.now (length g.out.now) z)) e))
 
 pub put-frame-spec : {M : Type 1} → statement M

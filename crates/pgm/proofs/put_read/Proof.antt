@@ -45,9 +45,9 @@ returns-2 c =
     let a = c.before.before.before.before.before.before.before.before.before.before.before.before in
     let g = a.args in
     let xs = g.out.now in
-    let p = c.before.before.before.put-pixels in
+    let p = c.before.before.before.put_pixels in
     let short = le-ltb (length xs) (10 + g.w * g.h) c.before.before.before.before.before.before.before.before.before.if1.false in
-    (ap Refused p.ensures.0 ∙ sym (pick_false _ _ _ short ∙ pick_false _ _ _ (ne_eqb _ _ (λ e. c.if2.true (p.ensures.0 ∙ e)))), p.ensures.1 ∙ ap (λ (z : List ℕ). put z 10 (gray_pixels_of g.plain g.max g.s.now g.at (g.w * g.h))) c.before.before.before.before.before.before.before.put-head.ensures ∙ put_all g.plain g.max g.s.now xs g.w g.h g.at c.before.before.before.before.before.before.before.before.before.if1.false ∙ sym (ap (put xs 0) (pick_false _ _ _ short)))
+    (ap Refused p.ensures.0 ∙ sym (pick_false _ _ _ short ∙ pick_false _ _ _ (ne_eqb _ _ (λ e. c.if2.true (p.ensures.0 ∙ e)))), p.ensures.1 ∙ ap (λ (z : List ℕ). put z 10 (gray_pixels_of g.plain g.max g.s.now g.at (g.w * g.h))) c.before.before.before.before.before.before.before.put_head.ensures ∙ put_all g.plain g.max g.s.now xs g.w g.h g.at c.before.before.before.before.before.before.before.before.before.if1.false ∙ sym (ap (put xs 0) (pick_false _ _ _ short)))
 
 add-t10 : tie.Need-overflow-add-t10
 add-t10 c = search rules
@@ -61,9 +61,9 @@ returns-3 c =
     let a = c.before.before.before.before.before.before.before.before.before.before.before.before in
     let g = a.args in
     let xs = g.out.now in
-    let p = c.before.before.before.put-pixels in
+    let p = c.before.before.before.put_pixels in
     let short = le-ltb (length xs) (10 + g.w * g.h) c.before.before.before.before.before.before.before.before.before.if1.false in
-    (sym (pick_false _ _ _ short ∙ pick_true _ _ _ (eq-eqb _ _ (sym p.ensures.0 ∙ c.if2.false))), p.ensures.1 ∙ ap (λ (z : List ℕ). put z 10 (gray_pixels_of g.plain g.max g.s.now g.at (g.w * g.h))) c.before.before.before.before.before.before.before.put-head.ensures ∙ put_all g.plain g.max g.s.now xs g.w g.h g.at c.before.before.before.before.before.before.before.before.before.if1.false ∙ sym (ap (put xs 0) (pick_false _ _ _ short)))
+    (sym (pick_false _ _ _ short ∙ pick_true _ _ _ (eq-eqb _ _ (sym p.ensures.0 ∙ c.if2.false))), p.ensures.1 ∙ ap (λ (z : List ℕ). put z 10 (gray_pixels_of g.plain g.max g.s.now g.at (g.w * g.h))) c.before.before.before.before.before.before.before.put_head.ensures ∙ put_all g.plain g.max g.s.now xs g.w g.h g.at c.before.before.before.before.before.before.before.before.before.if1.false ∙ sym (ap (put xs 0) (pick_false _ _ _ short)))
 
 pub put-read-spec : {M : Type 1} → statement M
 put-read-spec =

@@ -13,7 +13,7 @@ is-magic-requires c κs = search rules
 
 returns : tie.Need-returns
 unfolding header_of
-returns c = sym (pick_false _ _ _ (sym c.before.is-magic.ensures ∙ not-true _ c.if1.true))
+returns c = sym (pick_false _ _ _ (sym c.before.is_magic.ensures ∙ not-true _ c.if1.true))
 
 number-requires : tie.Need-number-requires
 number-requires c κs = search rules
@@ -26,7 +26,7 @@ enum_told c = search rules
 
 returns-2 : tie.Need-returns-2
 unfolding header_of
-returns-2 c = sym (pick_true _ _ _ (sym c.before.before.before.before.is-magic.ensures ∙ not-false _ c.before.before.before.if1.false) ∙ no_number _ _ c.before.before.number.ensures c.enum_told.given.1)
+returns-2 c = sym (pick_true _ _ _ (sym c.before.before.before.before.is_magic.ensures ∙ not-false _ c.before.before.before.if1.false) ∙ no_number _ _ c.before.before.number.ensures c.enum_told.given.1)
 
 number-requires-2 : tie.Need-number-requires-2
 number-requires-2 c κs = search rules
@@ -39,7 +39,7 @@ enum-told-2 c = search rules
 
 returns-3 : tie.Need-returns-3
 unfolding header_of
-returns-3 c = sym (pick_true _ _ _ (sym c.before.before.before.before.before.before.before.before.is-magic.ensures ∙ not-false _ c.before.before.before.before.before.before.before.if1.false) ∙ a_number _ _ c.before.before.before.before.before.before.number.ensures _ c.before.before.before.before.w.given.1 ∙ no_number _ _ c.before.before.number2.ensures c.enum-told2.given.1)
+returns-3 c = sym (pick_true _ _ _ (sym c.before.before.before.before.before.before.before.before.is_magic.ensures ∙ not-false _ c.before.before.before.before.before.before.before.if1.false) ∙ a_number _ _ c.before.before.before.before.before.before.number.ensures _ c.before.before.before.before.w.given.1 ∙ no_number _ _ c.before.before.number2.ensures c.enum-told2.given.1)
 
 number-requires-3 : tie.Need-number-requires-3
 number-requires-3 c κs = search rules
@@ -52,14 +52,14 @@ enum-told-3 c = search rules
 
 returns-4 : tie.Need-returns-4
 unfolding header_of
-returns-4 c = sym (pick_true _ _ _ (sym c.before.before.before.before.before.before.before.before.before.before.before.before.is-magic.ensures ∙ not-false _ c.before.before.before.before.before.before.before.before.before.before.before.if1.false) ∙ a_number _ _ c.before.before.before.before.before.before.before.before.before.before.number.ensures _ c.before.before.before.before.before.before.before.before.w.given.1 ∙ a_number _ _ c.before.before.before.before.before.before.number2.ensures _ c.before.before.before.before.h.given.1 ∙ no_number _ _ c.before.before.number3.ensures c.enum-told3.given.1)
+returns-4 c = sym (pick_true _ _ _ (sym c.before.before.before.before.before.before.before.before.before.before.before.before.is_magic.ensures ∙ not-false _ c.before.before.before.before.before.before.before.before.before.before.before.if1.false) ∙ a_number _ _ c.before.before.before.before.before.before.before.before.before.before.number.ensures _ c.before.before.before.before.before.before.before.before.w.given.1 ∙ a_number _ _ c.before.before.before.before.before.before.number2.ensures _ c.before.before.before.before.h.given.1 ∙ no_number _ _ c.before.before.number3.ensures c.enum-told3.given.1)
 
 ranges-requires : tie.Need-ranges-requires
 ranges-requires c κs = search rules
 
 returns-5 : tie.Need-returns-5
 unfolding header_of
-returns-5 c = c.ranges-2.ensures ∙ sym (pick_true _ _ _ (sym c.before.before.before.before.before.before.before.before.before.before.before.before.before.before.is-magic.ensures ∙ not-false _ c.before.before.before.before.before.before.before.before.before.before.before.before.before.if1.false) ∙ a_number _ _ c.before.before.before.before.before.before.before.before.before.before.before.before.number.ensures _ c.before.before.before.before.before.before.before.before.before.before.w.given.1 ∙ a_number _ _ c.before.before.before.before.before.before.before.before.number2.ensures _ c.before.before.before.before.before.before.h.given.1 ∙ a_number _ _ c.before.before.before.before.number3.ensures _ c.before.before.max.given.1)
+returns-5 c = c.ranges-2.ensures ∙ sym (pick_true _ _ _ (sym c.before.before.before.before.before.before.before.before.before.before.before.before.before.before.is_magic.ensures ∙ not-false _ c.before.before.before.before.before.before.before.before.before.before.before.before.before.if1.false) ∙ a_number _ _ c.before.before.before.before.before.before.before.before.before.before.before.before.number.ensures _ c.before.before.before.before.before.before.before.before.before.before.w.given.1 ∙ a_number _ _ c.before.before.before.before.before.before.before.before.number2.ensures _ c.before.before.before.before.before.before.h.given.1 ∙ a_number _ _ c.before.before.before.before.number3.ensures _ c.before.before.max.given.1)
 
 pub read-header-spec : {M : Type 1} → statement M
 read-header-spec =

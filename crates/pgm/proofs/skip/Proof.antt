@@ -29,7 +29,7 @@ is-between-requires : tie.Need-is-between-requires invariant-loop decreases-loop
 is-between-requires c κs = search rules
 
 returns : tie.Need-returns invariant-loop decreases-loop
-returns c = gap_stop c.before.before.before.before.loop.invariant (omega arith) (sym c.before.is-between.ensures ∙ not-true _ c.if1.true)
+returns c = gap_stop c.before.before.before.before.loop.invariant (omega arith) (sym c.before.is_between.ensures ∙ not-true _ c.if1.true)
 
 is-open-requires : tie.Need-is-open-requires invariant-loop decreases-loop
 is-open-requires c κs = search rules
@@ -41,7 +41,7 @@ loop-less : tie.Need-loop-smaller invariant-loop decreases-loop
 loop-less c = search rules
 
 loop-again : tie.Need-loop-preserved invariant-loop decreases-loop
-loop-again c = gap_more c.before.before.before.before.before.loop.invariant (omega arith) (sym c.before.before.is-between.ensures ∙ not-false _ c.before.if1.false) c.is_open.ensures
+loop-again c = gap_more c.before.before.before.before.before.loop.invariant (omega arith) (sym c.before.before.is_between.ensures ∙ not-false _ c.before.if1.false) c.is_open.ensures
 
 returns-2 : tie.Need-returns-2 invariant-loop decreases-loop
 returns-2 c = gap_end c.before.loop.invariant (omega arith)

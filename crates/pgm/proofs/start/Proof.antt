@@ -24,14 +24,14 @@ is-blank-requires c κs = search rules
 
 returns-2 : tie.Need-returns-2
 unfolding start_of
-returns-2 c = sym (pick_false _ _ _ (ne_eqb _ _ (λ e. c.before.before.before.if1.false (c.before.before.before.before.byte_at.ensures ∙ e))) ∙ pick_false _ _ _ (ap blank (sym c.before.before.byte-at2.ensures) ∙ sym c.before.is-blank.ensures ∙ not-true _ c.if2.true))
+returns-2 c = sym (pick_false _ _ _ (ne_eqb _ _ (λ e. c.before.before.before.if1.false (c.before.before.before.before.byte_at.ensures ∙ e))) ∙ pick_false _ _ _ (ap blank (sym c.before.before.byte_at2.ensures) ∙ sym c.before.is_blank.ensures ∙ not-true _ c.if2.true))
 
 add-t9 : tie.Need-overflow-add-t9
-add-t9 c = let a = c.before.before.before.before.before.before.args in omega (arith, blank_within a.s.now a.at (ap blank (sym c.before.before.byte-at2.ensures) ∙ sym c.before.is-blank.ensures ∙ not-false _ c.if2.false))
+add-t9 c = let a = c.before.before.before.before.before.before.args in omega (arith, blank_within a.s.now a.at (ap blank (sym c.before.before.byte_at2.ensures) ∙ sym c.before.is_blank.ensures ∙ not-false _ c.if2.false))
 
 returns-3 : tie.Need-returns-3
 unfolding start_of
-returns-3 c = sym (pick_false _ _ _ (ne_eqb _ _ (λ e. c.before.before.before.if1.false (c.before.before.before.before.byte_at.ensures ∙ e))) ∙ pick_true _ _ _ (ap blank (sym c.before.before.byte-at2.ensures) ∙ sym c.before.is-blank.ensures ∙ not-false _ c.if2.false))
+returns-3 c = sym (pick_false _ _ _ (ne_eqb _ _ (λ e. c.before.before.before.if1.false (c.before.before.before.before.byte_at.ensures ∙ e))) ∙ pick_true _ _ _ (ap blank (sym c.before.before.byte_at2.ensures) ∙ sym c.before.is_blank.ensures ∙ not-false _ c.if2.false))
 
 pub start_spec : {M : Type 1} → statement M
 start_spec =

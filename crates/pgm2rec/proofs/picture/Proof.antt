@@ -25,7 +25,7 @@ returns : tie.Need-returns
 returns c =
     let o = c.before.before.opened in
     let w = o.ensures in
-    (record { fd = to_z w32 (of_z w32 c.before.before.before.open-read.result); file = file_of w.file o.new.1.1.1.0; out = w.out }, w.after)
+    (record { fd = to_z w32 (of_z w32 c.before.before.before.open_read.result); file = file_of w.file o.new.1.1.1.0; out = w.out }, w.after)
 
 pub picture-spec : {M : Type 1} → statement M
 picture-spec =

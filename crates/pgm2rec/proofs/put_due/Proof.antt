@@ -28,7 +28,7 @@ returns-2 c =
     let a = c.before.before.before.before.before.before.before.before.args in
     let o = a.run.options in
     let e = due_some a.run (not-false _ c.before.before.before.before.before.if1.false) in
-    (sym (settings_long o.eps o.passes o.filter o.edge) ∙ sym (ap (λ (l : List ℕ). length l) e), c.before.before.put-settings.ensures ∙ sym (ap (put a.out.now 0) e))
+    (sym (settings_long o.eps o.passes o.filter o.edge) ∙ sym (ap (λ (l : List ℕ). length l) e), c.before.before.put_settings.ensures ∙ sym (ap (put a.out.now 0) e))
 
 pub put-due-spec : {M : Type 1} → statement M
 put-due-spec = tie.close (tie.spec returns put-settings-requires same_length returns-2)

@@ -25,19 +25,19 @@ enum-known-made-2 c = search rules
 slice-reshare-prefix-write : tie.Need-slice-reshare-prefix-write
 slice-reshare-prefix-write c =
     let a = c.before.before.before.before.before.before.before.before.before.before.args in
-    let p = c.before.before.before.before.before.put-picture in
+    let p = c.before.before.before.before.before.put_picture in
     within a.run a.file.now a.out.now c.before.before.before.before.before.before.before.before.before.before.requires p.ensures.1 p.ensures.0 _ c.before.made2.given.1
 
 slice-aggregate-write : tie.Need-slice-aggregate-write
 slice-aggregate-write c =
     let a = c.before.before.before.before.before.before.before.before.before.before.before.args in
-    let p = c.before.before.before.before.before.before.put-picture in
+    let p = c.before.before.before.before.before.before.put_picture in
     counted a.run a.file.now a.out.now c.before.before.before.before.before.before.before.before.before.before.before.requires p.ensures.1 p.ensures.0 _ c.before.before.made2.given.1
 
 write-requires : tie.Need-write-requires
 write-requires c κs =
     let a = c.before.before.before.before.before.before.before.before.before.before.before.args in
-    let p = c.before.before.before.before.before.before.put-picture in
+    let p = c.before.before.before.before.before.before.put_picture in
     shown a.run a.file.now a.out.now c.before.before.before.before.before.before.before.before.before.before.before.requires p.ensures.1 p.ensures.0 _ c.before.before.made2.given.1
 
 same_length : tie.Need-same-length
@@ -46,7 +46,7 @@ same_length c = search rules
 returns : tie.Need-returns
 returns c =
     let a = c.before.before.before.before.before.before.before.before.before.before.before.before.args in
-    (true, c.stopped.ensures ∙ sym (run_refused a.run true a.file.now c.before.before.before.before.before.before.before.put-picture.ensures.0 _ c.before.before.before.made.given.1))
+    (true, c.stopped.ensures ∙ sym (run_refused a.run true a.file.now c.before.before.before.before.before.before.before.put_picture.ensures.0 _ c.before.before.before.made.given.1))
 
 same-length-2 : tie.Need-same-length-2
 same-length-2 c = search rules
@@ -55,7 +55,7 @@ returns-2 : tie.Need-returns-2
 returns-2 c =
     let a = c.before.before.before.before.before.before.before.before.before.before.before.before.args in
     let w = c.write.ensures in
-    (w.0, w.1 ∙ sym (run_made a.run w.0 a.file.now c.before.before.before.before.before.before.before.put-picture.ensures.0 _ c.before.before.before.made2.given.1))
+    (w.0, w.1 ∙ sym (run_made a.run w.0 a.file.now c.before.before.before.before.before.before.before.put_picture.ensures.0 _ c.before.before.before.made2.given.1))
 
 pub show-spec : {M : Type 1} → statement M
 show-spec =

@@ -41,7 +41,7 @@ returns : tie.Need-returns
 unfolding taken_run
 returns c =
     let a = c.before.before.before.before.before.before.args in
-    let e = sym c.before.before.before.before.take-word.ensures ∙ c.before.before.kind.given.1 in
+    let e = sym c.before.before.before.before.take_word.ensures ∙ c.before.before.kind.given.1 in
     (nobody, c.changed.ensures ∙ sym (ap (taken_run a.run nobody) e))
 
 returns-2 : tie.Need-returns-2
@@ -49,14 +49,14 @@ unfolding taken_run
 returns-2 c =
     let a = c.before.before.before.before.before.args in
     let w = c.picture.ensures in
-    let e : word_of a.run.options a.word.now ≡ Picture = sym c.before.before.before.take-word.ensures ∙ c.before.enum_told.given.1 in
+    let e : word_of a.run.options a.word.now ≡ Picture = sym c.before.before.before.take_word.ensures ∙ c.before.enum_told.given.1 in
     (w.0, w.1 ∙ sym (ap (taken_run a.run w.0) e))
 
 returns-3 : tie.Need-returns-3
 unfolding taken_run
 returns-3 c =
     let a = c.before.before.before.before.before.before.before.args in
-    let e = sym c.before.before.before.before.before.take-word.ensures ∙ c.before.before.before.kind2.given.1 in
+    let e = sym c.before.before.before.before.before.take_word.ensures ∙ c.before.before.before.kind2.given.1 in
     (nobody, c.stopped.ensures ∙ sym (ap (taken_run a.run nobody) e))
 
 pub taken-spec : {M : Type 1} → statement M

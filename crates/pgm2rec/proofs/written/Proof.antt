@@ -8,11 +8,11 @@ use Rattle.pgm2rec.proofs.written.Statement.{statement}
 use Rattle.pgm2rec.proofs.written.Tie as tie
 
 -- by the test, whatever its form
-failed : (c : tie.Then1) → c.before.args.is-out ≡ false
-failed c = choose c.before.args.is-out (λ e. absurd (true≢false (sym (rw e at c.if1.true)))) (λ e. e)
+failed : (c : tie.Then1) → c.before.args.is_out ≡ false
+failed c = choose c.before.args.is_out (λ e. absurd (true≢false (sym (rw e at c.if1.true)))) (λ e. e)
 
-went : (c : tie.Else1) → c.before.args.is-out ≡ true
-went c = choose c.before.args.is-out (λ e. e) (λ e. absurd (true≢false (rw e at c.if1.false)))
+went : (c : tie.Else1) → c.before.args.is_out ≡ true
+went c = choose c.before.args.is_out (λ e. e) (λ e. absurd (true≢false (rw e at c.if1.false)))
 
 slice-aggregate-fail : tie.Need-slice-aggregate-fail
 slice-aggregate-fail c = search rules

@@ -12,7 +12,7 @@ use Rattle.places.proofs.is_inside.Tie as tie
 two : (c : tie.Joined1) → let a = c.before.before.before.args in c.if1.if2 ≡ (le 0f a.sx && le 0f a.sy)
 two c = ⊎_elim (λ w. rw w.0.taken w.1) (λ w. rw w.0.left (w.1 ∙ w.0.left)) c.if1.branch
 
-three : (c : tie.Joined2) → let a = c.before.before.before.before.args in c.if2.if3 ≡ (le 0f a.sx && le 0f a.sy && lt a.sx c.before.before.before.to-f32-short.result)
+three : (c : tie.Joined2) → let a = c.before.before.before.before.args in c.if2.if3 ≡ (le 0f a.sx && le 0f a.sy && lt a.sx c.before.before.before.to_f32_short.result)
 three c = rw (← two c.before) (⊎_elim (λ w. rw w.0.taken w.1) (λ w. rw w.0.left (w.1 ∙ w.0.left)) c.if2.branch)
 
 sub-to-f32-short : tie.Need-overflow-sub-to-f32-short
@@ -31,13 +31,13 @@ returns : tie.Need-returns
 unfolding inside
 returns c =
     let d = c.before.before.before in
-    rw (← d.before.to-f32-short.ensures, ← d.to-f32-short2.ensures, ← three c.before, c.if3.true)
+    rw (← d.before.to_f32_short.ensures, ← d.to_f32_short2.ensures, ← three c.before, c.if3.true)
 
 returns-2 : tie.Need-returns-2
 unfolding inside
 returns-2 c =
     let d = c.before.before.before in
-    rw (← d.before.to-f32-short.ensures, ← three c.before, c.if3.false)
+    rw (← d.before.to_f32_short.ensures, ← three c.before, c.if3.false)
 
 pub is-inside-spec : {M : Type 1} → statement M
 is-inside-spec =

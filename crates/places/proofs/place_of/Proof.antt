@@ -33,36 +33,36 @@ below_x s = let a = s.args in zeroed_x_lem a.map a.w a.h a.x a.y (omega arith) (
 below_y : (s : tie.Start) → Below (ty s) 4096
 below_y s = let a = s.args in zeroed_y_lem a.map a.w a.h a.x a.y (omega arith) (omega arith)
 
-within_is : (c : tie.After-or-zero2) → c.before.before.is-inside.result ≡ marked c.before.before.before.before.before
+within_is : (c : tie.After-or-zero2) → c.before.before.is_inside.result ≡ marked c.before.before.before.before.before
 unfolding marked_at
 within_is c =
     let a = c.before.before.before.before.before.args in
-    c.before.before.is-inside.ensures ∙ ap₂ (inside a.w a.h) c.before.before.before.before.point-x.ensures c.before.before.before.point-y.ensures
+    c.before.before.is_inside.ensures ∙ ap₂ (inside a.w a.h) c.before.before.before.before.point_x.ensures c.before.before.before.point_y.ensures
 
-x_is : (c : tie.After-or-zero2) → c.before.or-zero.result ≡ tx c.before.before.before.before.before
-x_is c = c.before.or-zero.ensures ∙ ap₂ (λ (b : Bool) (s : Float). pick b s 0f) (within_is c) c.before.before.before.before.point-x.ensures
+x_is : (c : tie.After-or-zero2) → c.before.or_zero.result ≡ tx c.before.before.before.before.before
+x_is c = c.before.or_zero.ensures ∙ ap₂ (λ (b : Bool) (s : Float). pick b s 0f) (within_is c) c.before.before.before.before.point_x.ensures
 
-y_is : (c : tie.After-or-zero2) → c.or-zero2.result ≡ ty c.before.before.before.before.before
-y_is c = c.or-zero2.ensures ∙ ap₂ (λ (b : Bool) (s : Float). pick b s 0f) (within_is c) c.before.before.before.point-y.ensures
+y_is : (c : tie.After-or-zero2) → c.or_zero2.result ≡ ty c.before.before.before.before.before
+y_is c = c.or_zero2.ensures ∙ ap₂ (λ (b : Bool) (s : Float). pick b s 0f) (within_is c) c.before.before.before.point_y.ensures
 
 -- ---- its whole parts, and the place that they give
-x0_is : (c : tie.After-floor-small2) → c.before.floor-small.result ≡ f32 (index_of (tx c.before.before.before.before.before.before.before))
+x0_is : (c : tie.After-floor-small2) → c.before.floor_small.result ≡ f32 (index_of (tx c.before.before.before.before.before.before.before))
 unfolding index_of
-x0_is c = c.before.floor-small.ensures ∙ ap (λ (s : Float). f32 (index_of s)) (x_is c.before.before)
+x0_is c = c.before.floor_small.ensures ∙ ap (λ (s : Float). f32 (index_of s)) (x_is c.before.before)
 
-y0_is : (c : tie.After-floor-small2) → c.floor-small2.result ≡ f32 (index_of (ty c.before.before.before.before.before.before.before))
+y0_is : (c : tie.After-floor-small2) → c.floor_small2.result ≡ f32 (index_of (ty c.before.before.before.before.before.before.before))
 unfolding index_of
-y0_is c = c.floor-small2.ensures ∙ ap (λ (s : Float). f32 (index_of s)) (y_is c.before.before)
+y0_is c = c.floor_small2.ensures ∙ ap (λ (s : Float). f32 (index_of s)) (y_is c.before.before)
 
 spot : (c : tie.After-to-f32-short) →
     let s = c.before.before.before.before.before.before.before.before in
-    let v = c.before.floor-small2.result ⊗ c.to-f32-short.result ⊕ c.before.before.floor-small.result in
+    let v = c.before.floor_small2.result ⊗ c.to_f32_short.result ⊕ c.before.before.floor_small.result in
     T (in_signed binary32 31 v) × (to_signed 31 v ≡ pos (to_unsigned 32 v)) × (to_unsigned 32 v ≡ index_of (ty s) * s.args.w + index_of (tx s))
 unfolding index_of
 spot c =
     let d = c.before in
     let s = d.before.before.before.before.before.before.before in
-    rw (y0_is d, x0_is d, c.to-f32-short.ensures) (spot_is s.args.w _ _ (omega arith) (below_x s).index (below_y s).index)
+    rw (y0_is d, x0_is d, c.to_f32_short.ensures) (spot_is s.args.w _ _ (omega arith) (below_x s).index (below_y s).index)
 
 -- the row starts within the largest image
 row : (s : tie.Start) → let a = s.args in a.y * a.w ≤ 4096 * 4096

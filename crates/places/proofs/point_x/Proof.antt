@@ -12,7 +12,7 @@ to-f32-short-requires-2 c κs = search rules
 
 returns : tie.Need-returns
 unfolding sx_of
-returns c = rw (c.before.before.before.before.to-f32-short.ensures, c.before.before.to-f32-short2.ensures)
+returns c = rw (c.before.before.before.before.to_f32_short.ensures, c.before.before.to_f32_short2.ensures)
 
 pub point-x-spec : {M : Type 1} → statement M
 point-x-spec = tie.close (tie.spec to-f32-short-requires to-f32-short-requires-2 returns)

@@ -12,7 +12,7 @@ to-f32-short-requires-2 c κs = search rules
 
 returns : tie.Need-returns
 unfolding sy_of
-returns c = rw (c.before.before.before.before.to-f32-short.ensures, c.before.before.to-f32-short2.ensures)
+returns c = rw (c.before.before.before.before.to_f32_short.ensures, c.before.before.to_f32_short2.ensures)
 
 pub point-y-spec : {M : Type 1} → statement M
 point-y-spec = tie.close (tie.spec to-f32-short-requires to-f32-short-requires-2 returns)

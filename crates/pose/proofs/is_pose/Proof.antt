@@ -14,7 +14,7 @@ is-finite-requires-2 c κs = search rules
 
 returns : tie.Need-returns
 unfolding is_pose
-returns c = c.is-finite2.ensures ∙ last_of _ _ _ _ c.before.before.before.before.if1.true c.before.before.before.if2.true (sym c.before.before.is_finite.ensures ∙ c.before.if3.true)
+returns c = c.is_finite2.ensures ∙ last_of _ _ _ _ c.before.before.before.before.if1.true c.before.before.before.if2.true (sym c.before.before.is_finite.ensures ∙ c.before.if3.true)
 
 returns-2 : tie.Need-returns-2
 unfolding is_pose

@@ -23,7 +23,7 @@ returns c = cc
 
 returns-2 : tie.Need-returns-2
 unfolding matrix_of
-returns-2 c = c.posed-matrix.ensures ∙ sym (ap matrix_of c.before.before.a.given.1)
+returns-2 c = c.posed_matrix.ensures ∙ sym (ap matrix_of c.before.before.a.given.1)
 
 pub matrix-of-spec : {M : Type 1} → statement M
 matrix-of-spec =

@@ -11,18 +11,18 @@ is-pose-requires : tie.Need-is-pose-requires
 is-pose-requires c κs = search rules
 
 turned-requires : tie.Need-turned-requires
-turned-requires c κs = pose_theta _ _ _ (sym c.before.is-pose.ensures ∙ c.if1.true)
+turned-requires c κs = pose_theta _ _ _ (sym c.before.is_pose.ensures ∙ c.if1.true)
 
 identity3-requires : tie.Need-identity3-requires
 identity3-requires c κs = search rules
 
 returns : tie.Need-returns
 unfolding posed_matrix
-returns c = c.turned.ensures ∙ sym (pick_true _ _ _ (sym c.before.before.is-pose.ensures ∙ c.before.if1.true))
+returns c = c.turned.ensures ∙ sym (pick_true _ _ _ (sym c.before.before.is_pose.ensures ∙ c.before.if1.true))
 
 returns-2 : tie.Need-returns-2
 unfolding posed_matrix
-returns-2 c = c.identity3.ensures ∙ sym (pick_false _ _ _ (sym c.before.before.is-pose.ensures ∙ c.before.if1.false))
+returns-2 c = c.identity3.ensures ∙ sym (pick_false _ _ _ (sym c.before.before.is_pose.ensures ∙ c.before.if1.false))
 
 pub posed-matrix-spec : {M : Type 1} → statement M
 posed-matrix-spec =

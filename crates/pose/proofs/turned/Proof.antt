@@ -14,7 +14,7 @@ returns : tie.Need-returns
 unfolding affine_from_theta_tx_ty affine_matrix
 returns c =
     ap (λ (m : Map). record { m00 = m.m00; m01 = m.m01; m02 = m.m02; m10 = m.m10; m11 = m.m11; m12 = m.m12; m20 = 0f; m21 = 0f; m22 = 1f })
-    c.affine-from-theta-tx-ty.ensures
+    c.affine_from_theta_tx_ty.ensures
 
 pub turned-spec : {M : Type 1} → statement M
 turned-spec = tie.close (tie.spec affine-from-theta-tx-ty-requires returns)

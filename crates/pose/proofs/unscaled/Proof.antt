@@ -18,12 +18,12 @@ is-finite-requires-2 c κs = search rules
 returns-2 : tie.Need-returns-2
 returns-2 c =
     let g = c.before in
-    second_endless _ _ _ _ (sym g.before.before.is_finite.ensures ∙ not-false _ g.before.if1.false) (sym g.is-finite2.ensures ∙ not-true _ c.if2.true)
+    second_endless _ _ _ _ (sym g.before.before.is_finite.ensures ∙ not-false _ g.before.if1.false) (sym g.is_finite2.ensures ∙ not-true _ c.if2.true)
 
 returns-3 : tie.Need-returns-3
 returns-3 c =
     let g = c.before in
-    stands _ _ _ _ (sym g.before.before.is_finite.ensures ∙ not-false _ g.before.if1.false) (sym g.is-finite2.ensures ∙ not-false _ c.if2.false)
+    stands _ _ _ _ (sym g.before.before.is_finite.ensures ∙ not-false _ g.before.if1.false) (sym g.is_finite2.ensures ∙ not-false _ c.if2.false)
 
 pub unscaled-spec : {M : Type 1} → statement M
 unscaled-spec =

@@ -39,7 +39,7 @@ returns c =
     let a = d.before.before.before.args in
     let n = a.w * a.h in
     let xs = a.work.now in
-    blur_back n a.j (length xs - a.j * n) xs (omega arith) (rows_of a.ksize a.w a.h) (columns_of a.ksize a.w a.h) (length_rows a.ksize a.w a.h) (length_columns a.ksize a.w a.h) (omega arith) _ d.gaussian-blur-separable.ensures
+    blur_back n a.j (length xs - a.j * n) xs (omega arith) (rows_of a.ksize a.w a.h) (columns_of a.ksize a.w a.h) (length_rows a.ksize a.w a.h) (length_columns a.ksize a.w a.h) (omega arith) _ d.gaussian_blur_separable.ensures
 
 pub blur-image-spec : {M : Type 1} → statement M
 blur-image-spec =

@@ -44,7 +44,7 @@ loop-again c =
     let a = l.before.before.before.args in (
       omega arith,
       simp length-set l.loop.invariant.1,
-      rw l.loop.invariant.2 (front_more a.out.now (gray_at a.img.now) l.loop.i c.byte-to-f32.result (omega arith) c.byte-to-f32.ensures),
+      rw l.loop.invariant.2 (front_more a.out.now (gray_at a.img.now) l.loop.i c.byte_to_f32.result (omega arith) c.byte_to_f32.ensures),
     )
 
 same_length : tie.Need-same-length invariant-loop decreases-loop

@@ -38,7 +38,7 @@ returns : tie.Need-returns
 returns c =
     let d = c.before.before in
     let t = d.before.before in
-    rw (scaled_changed _ _ _ _ _ (changed t.before t.if2.true)) d.resize-bilinear.ensures
+    rw (scaled_changed _ _ _ _ _ (changed t.before t.if2.true)) d.resize_bilinear.ensures
 
 same-length-2 : tie.Need-same-length-2
 same-length-2 c = search rules
@@ -48,7 +48,7 @@ returns-2 c =
     let d = c.before.before in
     let t = d.before.before in
     let s = same t.before t.if2.false in
-    rw (scaled_same _ _ _ _ _ s.0 s.1) d.gray-u8-to-f32.ensures
+    rw (scaled_same _ _ _ _ _ s.0 s.1) d.gray_u8_to_f32.ensures
 
 pub load_spec : {M : Type 1} → statement M
 load_spec =

@@ -30,7 +30,7 @@ returns : tie.Need-returns
 returns c =
     let d = c.before.before in
     let e = d.before.before in
-    rw (in_one _ _ _ _ _ _ _ _ e.if1.true) d.load-image.ensures
+    rw (in_one _ _ _ _ _ _ _ _ e.if1.true) d.load_image.ensures
 
 load-image-requires-2 : tie.Need-load-image-requires-2
 load-image-requires-2 c κs = omega (arith, room c.before.before.before.before)
@@ -38,7 +38,7 @@ load-image-requires-2 c κs = omega (arith, room c.before.before.before.before)
 blur-image-requires : tie.Need-blur-image-requires
 blur-image-requires c κs =
     let l = c.before.before.before in
-    omega (arith, room l.before.before.before.before.before, l.load-image2.auto.0)
+    omega (arith, room l.before.before.before.before.before, l.load_image2.auto.0)
 
 same-length-2 : tie.Need-same-length-2
 same-length-2 c = search rules
@@ -53,8 +53,8 @@ returns-2 c =
     let xs = a.work.now in
     let r = room e.before.before.before in
     let s = scaled_of a.bytes.now a.w a.h a.tw a.th in
-    let q : image n a.j l.load-image2.new.0 ≡ s = rw l.load-image2.ensures (image_set n a.j xs s (length_scaled _ _ _ _ _ (omega arith)) (omega arith)) in
-    rw (in_more _ _ _ _ _ _ _ _ e.if1.false) (rw (q, l.load-image2.ensures) at d.blur-image.ensures)
+    let q : image n a.j l.load_image2.new.0 ≡ s = rw l.load_image2.ensures (image_set n a.j xs s (length_scaled _ _ _ _ _ (omega arith)) (omega arith)) in
+    rw (in_more _ _ _ _ _ _ _ _ e.if1.false) (rw (q, l.load_image2.ensures) at d.blur_image.ensures)
 
 pub prepare-spec : {M : Type 1} → statement M
 prepare-spec =

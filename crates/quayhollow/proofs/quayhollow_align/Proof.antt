@@ -16,7 +16,7 @@ put-pose-requires c κs = search rules
 code-requires : tie.Need-code-requires
 code-requires c κs =
     let f = c.before.before.before.before.before.before.before.before in
-    rw f.find-transform-ecc-euclidean.ensures.0 (aligned_small _ _ _ _ _ _ _).1
+    rw f.find_transform_ecc_euclidean.ensures.0 (aligned_small _ _ _ _ _ _ _).1
 
 same_length : tie.Need-same-length
 same_length c = search rules
@@ -31,8 +31,8 @@ returns : tie.Need-returns
 returns c =
     let p = c.before.before.before in
     let f = p.before.before.before.before.before.before in
-    let e = f.find-transform-ecc-euclidean.ensures in
-    rw (← f.before.before.before.config.ensures) (handed_on _ e.0 c.code.ensures p.put-pose.ensures, e.1)
+    let e = f.find_transform_ecc_euclidean.ensures in
+    rw (← f.before.before.before.config.ensures) (handed_on _ e.0 c.code.ensures p.put_pose.ensures, e.1)
 
 pub quayhollow-align-spec : {M : Type 1} → statement M
 quayhollow-align-spec =

@@ -52,8 +52,8 @@ returns c =
     let e = f.estimate.ensures in
     let cfg = remembered_cfg g.config.result g.before.before.before.before.before.before.before.args.state.now in
     rw (← g.config.ensures, ← m.remembered.ensures) (
-      handed_on _ (ap (λ (r : Reply). r.outcome) e.0) c.code.ensures p.put-pose.ensures,
-      ((s.put-state.ensures, e.1.0), rw (← cfg, ← m.remembered.ensures) e.1.1),
+      handed_on _ (ap (λ (r : Reply). r.outcome) e.0) c.code.ensures p.put_pose.ensures,
+      ((s.put_state.ensures, e.1.0), rw (← cfg, ← m.remembered.ensures) e.1.1),
     )
 
 pub quayhollow-estimate-spec : {M : Type 1} → statement M

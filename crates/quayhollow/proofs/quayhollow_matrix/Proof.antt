@@ -24,7 +24,7 @@ returns : tie.Need-returns
 returns c =
     let p = c.before.before in
     let m = p.before.before in
-    p.put-matrix.ensures ∙ ap (λ (x : Matrix3). fronted (entries_of x) m.before.before.before.args.out.now) (m.matrix-of.ensures ∙ ap matrix_of m.before.handed.ensures)
+    p.put_matrix.ensures ∙ ap (λ (x : Matrix3). fronted (entries_of x) m.before.before.before.args.out.now) (m.matrix_of.ensures ∙ ap matrix_of m.before.handed.ensures)
 
 pub quayhollow-matrix-spec : {M : Type 1} → statement M
 quayhollow-matrix-spec =

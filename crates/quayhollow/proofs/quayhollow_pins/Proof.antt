@@ -24,7 +24,7 @@ returns : tie.Need-returns
 returns c =
     let p = c.before in
     let m = p.before.before in
-    p.put-pins.ensures ∙ ap (λ (x : Pins). fronted (three_of x) m.before.before.args.out.now) (m.pins-of.ensures ∙ ap (λ (a : Answer). pins_of a m.before.before.args.w m.before.before.args.h) m.before.handed.ensures)
+    p.put_pins.ensures ∙ ap (λ (x : Pins). fronted (three_of x) m.before.before.args.out.now) (m.pins_of.ensures ∙ ap (λ (a : Answer). pins_of a m.before.before.args.w m.before.before.args.h) m.before.handed.ensures)
 
 pub quayhollow-pins-spec : {M : Type 1} → statement M
 quayhollow-pins-spec =

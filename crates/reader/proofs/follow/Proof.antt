@@ -78,7 +78,7 @@ returns-3 c =
     let a = c.before.before.before.before.before.before.before.before.before.before.before.before.before.before.args in
     let l = c.before.before.before.before.before.before.before.event.given.0.0 in
     let h = c.before.before.before.before.room in
-    let p = c.before.before.put-line in
+    let p = c.before.before.put_line in
     let q : a.step.event ≡ event.Print l = cc in
     (search rules, by_event a.run _ a.step a.buf.now _ a.out.now _ (event.Print l) q h.ensures.2 ((record { start = refl; end = refl; bytes = refl; state = refl }, subst (λ (i : ℕ). Wrote a.out.now i (text_of l) 100 p.new.0 p.result) h.ensures.1 p.ensures, refl)))
 

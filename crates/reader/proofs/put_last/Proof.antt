@@ -19,13 +19,13 @@ same_length : tie.Need-same-length
 same_length c = search rules
 
 returns : tie.Need-returns
-returns c = rw c.before.before.before.before.before.end.given.1 c.before.before.put-end.ensures
+returns c = rw c.before.before.before.before.before.end.given.1 c.before.before.put_end.ensures
 
 same-length-2 : tie.Need-same-length-2
 same-length-2 c = search rules
 
 returns-2 : tie.Need-returns-2
-returns-2 c = rw c.before.before.before.before.before.end2.given.1 c.before.before.put-end2.ensures
+returns-2 c = rw c.before.before.before.before.before.end2.given.1 c.before.before.put_end2.ensures
 
 pub put-last-spec : {M : Type 1} → statement M
 put-last-spec =

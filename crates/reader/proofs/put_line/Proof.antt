@@ -20,7 +20,7 @@ returns c =
     let x : to_z w16 (of_z w16 l.dx) ≡ l.dx = to_z-of_z w16 l.dx (record { sfits = t.1.1.1.0.1 }) in
     let y : to_z w16 (of_z w16 l.dy) ≡ l.dy = to_z-of_z w16 l.dy (record { sfits = t.1.1.1.1.0.1 }) in
     let z : to_z w16 (of_z w16 l.turn) ≡ l.turn = to_z-of_z w16 l.turn (record { sfits = t.1.1.1.1.1.0.1 }) in
-    rw (x, y, z) at c.before.before.put-line.ensures
+    rw (x, y, z) at c.before.before.put_line.ensures
 
 pub put-line-spec : {M : Type 1} → statement M
 put-line-spec = tie.close (tie.spec put-line-requires same_length returns)

@@ -33,7 +33,7 @@ unfolding next_of
 returns-4 c =
     let e = c.before.before.before in
     let w = e.before.word_at.ensures.0 in
-    (rw (c.before.half_at.ensures.0, w) at c.read-body.ensures)
+    (rw (c.before.half_at.ensures.0, w) at c.read_body.ensures)
     ∙ sym (pick_false _ _ _ (le-ltb _ _ e.before.before.if1.false) ∙ pick_false _ _ _ (le-ltb _ _ (rw w at e.if2.false)) ∙ pick_false _ _ _ (le-ltb _ _ c.before.before.if3.false))
 
 pub next-spec : {M : Type 1} → statement M

@@ -12,14 +12,14 @@ read-settings-requires c κs = search rules
 
 returns : tie.Need-returns
 unfolding body_of
-returns c = c.read-settings.ensures ∙ sym (pick_true _ _ _ (eq-eqb _ _ c.before.if1.true))
+returns c = c.read_settings.ensures ∙ sym (pick_true _ _ _ (eq-eqb _ _ c.before.if1.true))
 
 read-frame-requires : tie.Need-read-frame-requires
 read-frame-requires c κs = search rules
 
 returns-2 : tie.Need-returns-2
 unfolding body_of
-returns-2 c = c.read-frame.ensures ∙ sym (pick_false _ _ _ (ne_eqb _ _ c.before.before.if1.false) ∙ pick_true _ _ _ (eq-eqb _ _ c.before.if2.true))
+returns-2 c = c.read_frame.ensures ∙ sym (pick_false _ _ _ (ne_eqb _ _ c.before.before.if1.false) ∙ pick_true _ _ _ (eq-eqb _ _ c.before.if2.true))
 
 returns-3 : tie.Need-returns-3
 unfolding body_of

@@ -30,7 +30,7 @@ half-at-requires-2 c κs = search rules
 
 returns-4 : tie.Need-returns-4
 unfolding frame_of
-returns-4 c = rw (c.before.half_at.ensures.0, c.half-at2.ensures.0) (sym (pick_false _ _ _ (le-ltb _ _ c.before.before.before.before.if1.false) ∙ pick_false _ _ _ (le-ltb _ _ c.before.before.before.if2.false) ∙ pick_false _ _ _ (le-ltb _ _ c.before.before.if3.false)))
+returns-4 c = rw (c.before.half_at.ensures.0, c.half_at2.ensures.0) (sym (pick_false _ _ _ (le-ltb _ _ c.before.before.before.before.if1.false) ∙ pick_false _ _ _ (le-ltb _ _ c.before.before.before.if2.false) ∙ pick_false _ _ _ (le-ltb _ _ c.before.before.if3.false)))
 
 pub read-frame-spec : {M : Type 1} → statement M
 read-frame-spec =

@@ -21,7 +21,7 @@ config-at-requires c κs = search rules
 
 returns-3 : tie.Need-returns-3
 unfolding settings_of
-returns-3 c = ap Settings c.config-at.ensures ∙ sym (pick_true _ _ _ (eq-eqb _ _ c.before.before.if1.false) ∙ pick_false _ _ _ (le-ltb _ _ c.before.if2.false))
+returns-3 c = ap Settings c.config_at.ensures ∙ sym (pick_true _ _ _ (eq-eqb _ _ c.before.before.if1.false) ∙ pick_false _ _ _ (le-ltb _ _ c.before.if2.false))
 
 pub read-settings-spec : {M : Type 1} → statement M
 read-settings-spec = tie.close (tie.spec returns returns-2 config-at-requires returns-3)

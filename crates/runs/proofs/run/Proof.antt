@@ -84,7 +84,7 @@ returns c =
     let l = c.before.before.loop in
     let a = c.before.before.before.before.before.args in (
       ap (λ (z : Answer). record { passes = l.k; answer = z }) c.unscaled.ensures
-          ∙ sym (passed _ l.k l.at l.rho l.last l.invariant.1 a.sx a.sy a.max-iter c.before.if1.true),
+          ∙ sym (passed _ l.k l.at l.rho l.last l.invariant.1 a.sx a.sy a.max_iter c.before.if1.true),
       (l.invariant.3, l.invariant.4),
     )
 
@@ -100,7 +100,7 @@ returns-2 c =
     let l = c.before.before.before.before.before.before.before.before.before.before.before.loop in
     let a = c.before.before.before.before.before.before.before.before.before.before.before.before.before.before.args in
     let f = d.pass.ensures.0 ∙ pass_kept a.w a.h a.eps l.at l.last (a.w * a.h) a.work.now l.work l.invariant.3 in (
-      sym (refusing _ l.k l.at l.rho l.last l.invariant.1 _ f a.sx a.sy _ a.max-iter c.before.step.given.1 (omega arith)),
+      sym (refusing _ l.k l.at l.rho l.last l.invariant.1 _ f a.sx a.sy _ a.max_iter c.before.step.given.1 (omega arith)),
       (kept_kept l.invariant.3 d.pass.ensures.1.0, marks_kept l.invariant.4 d.pass.ensures.1.1),
     )
 
@@ -117,7 +117,7 @@ returns-3 c =
     let a = c.before.before.before.before.before.before.before.before.before.before.before.before.before.before.before.args in
     let f = d.pass.ensures.0 ∙ pass_kept a.w a.h a.eps l.at l.last (a.w * a.h) a.work.now l.work l.invariant.3 in (
       ap (λ (z : Answer). record { passes = l.k + 1; answer = z }) c.unscaled2.ensures
-          ∙ sym (stopping _ l.k l.at l.rho l.last l.invariant.1 _ f a.sx a.sy _ a.max-iter c.before.before.step2.given.1 (omega arith)),
+          ∙ sym (stopping _ l.k l.at l.rho l.last l.invariant.1 _ f a.sx a.sy _ a.max_iter c.before.before.step2.given.1 (omega arith)),
       (kept_kept l.invariant.3 d.pass.ensures.1.0, marks_kept l.invariant.4 d.pass.ensures.1.1),
     )
 

@@ -22,14 +22,14 @@ unfolding slid_of
 returns-2 c =
     let f = c.before in
     let e = f.before in
-    sym (pick_true _ _ _ (sym e.before.is_finite.ensures ∙ not-false _ e.if1.false) ∙ pick_false _ _ _ (sym f.is-finite2.ensures ∙ not-true _ c.if2.true))
+    sym (pick_true _ _ _ (sym e.before.is_finite.ensures ∙ not-false _ e.if1.false) ∙ pick_false _ _ _ (sym f.is_finite2.ensures ∙ not-true _ c.if2.true))
 
 returns-3 : tie.Need-returns-3
 unfolding slid_of
 returns-3 c =
     let f = c.before in
     let e = f.before in
-    sym (pick_true _ _ _ (sym e.before.is_finite.ensures ∙ not-false _ e.if1.false) ∙ pick_true _ _ _ (sym f.is-finite2.ensures ∙ not-false _ c.if2.false))
+    sym (pick_true _ _ _ (sym e.before.is_finite.ensures ∙ not-false _ e.if1.false) ∙ pick_true _ _ _ (sym f.is_finite2.ensures ∙ not-false _ c.if2.false))
 
 pub slid-spec : {M : Type 1} → statement M
 slid-spec = tie.close (tie.spec is-finite-requires returns is-finite-requires-2 returns-2 returns-3)

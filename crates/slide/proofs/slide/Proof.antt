@@ -53,7 +53,7 @@ returns : tie.Need-returns
 returns c =
     let j = c.before.before in
     let b = j.before in
-    no_inverse _ _ _ _ _ _ _ _ _ b.project.result.h b.project.ensures.0 _ j.try-inverse2.ensures c.enum_told.given.1
+    no_inverse _ _ _ _ _ _ _ _ _ b.project.result.h b.project.ensures.0 _ j.try_inverse2.ensures c.enum_told.given.1
 
 times2-requires : tie.Need-times2-requires
 times2-requires c κs = search rules
@@ -79,7 +79,7 @@ returns-2 c =
     let i = inverted l in
     let j = i.before.before in
     let b = j.before in
-    no_lambda _ _ _ _ _ _ _ _ _ b.project.result.h b.project.ensures.0 _ _ j.try-inverse2.ensures i.h-inv.given.1 _ _ b.project.ensures.1 b.project.ensures.2 _ l.before.before.before.times2.ensures _ _ l.before.before.dot2.ensures l.before.dot22.ensures _ l.lambda-of.ensures c.enum-told2.given.1
+    no_lambda _ _ _ _ _ _ _ _ _ b.project.result.h b.project.ensures.0 _ _ j.try_inverse2.ensures i.h_inv.given.1 _ _ b.project.ensures.1 b.project.ensures.2 _ l.before.before.before.times2.ensures _ _ l.before.before.dot2.ensures l.before.dot22.ensures _ l.lambda_of.ensures c.enum-told2.given.1
 
 errors-requires : tie.Need-errors-requires
 errors-requires c κs =
@@ -101,7 +101,7 @@ returns-3 c =
     let i = inverted l in
     let j = i.before.before in
     let b = j.before in
-    c.slid.ensures ∙ one_lambda _ _ _ _ _ _ _ _ _ b.project.result.h b.project.ensures.0 _ _ j.try-inverse2.ensures i.h-inv.given.1 _ _ b.project.ensures.1 b.project.ensures.2 _ l.before.before.before.times2.ensures _ _ l.before.before.dot2.ensures l.before.dot22.ensures _ l.lambda-of.ensures _ k.lambda.given.1 _ _ e.errors.ensures t.times22.ensures
+    c.slid.ensures ∙ one_lambda _ _ _ _ _ _ _ _ _ b.project.result.h b.project.ensures.0 _ _ j.try_inverse2.ensures i.h_inv.given.1 _ _ b.project.ensures.1 b.project.ensures.2 _ l.before.before.before.times2.ensures _ _ l.before.before.dot2.ensures l.before.dot22.ensures _ l.lambda_of.ensures _ k.lambda.given.1 _ _ e.errors.ensures t.times22.ensures
 
 pub slide-spec : {M : Type 1} → statement M
 slide-spec =

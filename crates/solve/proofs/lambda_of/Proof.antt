@@ -40,7 +40,7 @@ returns-3 c =
     let d = f.before.before.before in
     ratio_endless _ _ _ d.before.before.before.before.args.s _ d.before.before.before.times.ensures _ _ d.before.dot.ensures d.dot2.ensures f.before.if1.false
     (sym f.is_finite.ensures ∙ not-false _ g.before.if2.false)
-    (sym g.is-finite2.ensures ∙ not-true _ c.if3.true)
+    (sym g.is_finite2.ensures ∙ not-true _ c.if3.true)
 
 returns-4 : tie.Need-returns-4
 returns-4 c =
@@ -49,7 +49,7 @@ returns-4 c =
     let d = f.before.before.before in
     ratio_stands _ _ _ d.before.before.before.before.args.s _ d.before.before.before.times.ensures _ _ d.before.dot.ensures d.dot2.ensures f.before.if1.false
     (sym f.is_finite.ensures ∙ not-false _ g.before.if2.false)
-    (sym g.is-finite2.ensures ∙ not-false _ c.if3.false)
+    (sym g.is_finite2.ensures ∙ not-false _ c.if3.false)
 
 pub lambda-of-spec : {M : Type 1} → statement M
 lambda-of-spec =

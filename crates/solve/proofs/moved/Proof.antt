@@ -11,11 +11,11 @@ is-pose-requires c κs = search rules
 
 returns : tie.Need-returns
 unfolding moved_of
-returns c = sym (pick_true _ _ _ (sym c.before.is-pose.ensures ∙ c.if1.true))
+returns c = sym (pick_true _ _ _ (sym c.before.is_pose.ensures ∙ c.if1.true))
 
 returns-2 : tie.Need-returns-2
 unfolding moved_of
-returns-2 c = sym (pick_false _ _ _ (sym c.before.is-pose.ensures ∙ c.if1.false))
+returns-2 c = sym (pick_false _ _ _ (sym c.before.is_pose.ensures ∙ c.if1.false))
 
 pub moved-spec : {M : Type 1} → statement M
 moved-spec = tie.close (tie.spec is-pose-requires returns returns-2)

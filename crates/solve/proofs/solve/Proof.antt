@@ -97,7 +97,7 @@ returns c =
     let j = c.before.before in
     let b = j.before in
     let z = b.before.before.before.before in
-    (kept z, no_inverse _ _ _ _ _ _ _ _ _ _ b.project.result.h b.project.ensures.0 _ j.try-inverse.ensures c.enum_told.given.1 ∙ back z)
+    (kept z, no_inverse _ _ _ _ _ _ _ _ _ _ b.project.result.h b.project.ensures.0 _ j.try_inverse.ensures c.enum_told.given.1 ∙ back z)
 
 lambda-of-requires : tie.Need-lambda-of-requires
 lambda-of-requires c κs = search rules
@@ -119,7 +119,7 @@ returns-2 c =
     let b = j.before in
     let z = b.before.before.before.before in (
       kept z,
-      no_lambda _ _ _ _ _ _ _ _ _ _ b.project.result.h b.project.ensures.0 _ _ j.try-inverse.ensures i.h-inv.given.1 _ _ b.project.ensures.1 b.project.ensures.2 _ l.lambda-of.ensures c.enum-told2.given.1 ∙ back z,
+      no_lambda _ _ _ _ _ _ _ _ _ _ b.project.result.h b.project.ensures.0 _ _ j.try_inverse.ensures i.h_inv.given.1 _ _ b.project.ensures.1 b.project.ensures.2 _ l.lambda_of.ensures c.enum-told2.given.1 ∙ back z,
     )
 
 errors-requires : tie.Need-errors-requires
@@ -152,7 +152,7 @@ returns-3 c =
     let b = j.before in
     let z = b.before.before.before.before in (
       kept z,
-      c.moved.ensures ∙ one_lambda _ _ _ _ _ _ _ _ _ _ b.project.result.h b.project.ensures.0 _ _ j.try-inverse.ensures i.h-inv.given.1 _ _ b.project.ensures.1 b.project.ensures.2 _ l.lambda-of.ensures _ k.lambda.given.1 _ _ e.errors.ensures t.times.ensures ∙ back z,
+      c.moved.ensures ∙ one_lambda _ _ _ _ _ _ _ _ _ _ b.project.result.h b.project.ensures.0 _ _ j.try_inverse.ensures i.h_inv.given.1 _ _ b.project.ensures.1 b.project.ensures.2 _ l.lambda_of.ensures _ k.lambda.given.1 _ _ e.errors.ensures t.times.ensures ∙ back z,
     )
 
 pub solve-spec : {M : Type 1} → statement M

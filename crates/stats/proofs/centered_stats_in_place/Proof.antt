@@ -34,8 +34,8 @@ loop-less c =
     let l = d.before.before.loop in
     let g = d.before.before.before.before.before.before.before in
     let a = g.args in
-    let o = d.next-stretch.ensures in
-    omega (arith, o.high, stretch_further a.marks.now a.n a.to l.i d.next-stretch.result g.requires.4.inside o (omega arith))
+    let o = d.next_stretch.ensures in
+    omega (arith, o.high, stretch_further a.marks.now a.n a.to l.i d.next_stretch.result g.requires.4.inside o (omega arith))
 
 loop-again : tie.Need-loop-preserved invariant-loop decreases-loop
 unfolding filled
@@ -43,11 +43,11 @@ loop-again c =
     let d = c.before.before.before.before in
     let l = d.before.before.loop in
     let g = d.before.before.before.before.before.before.before in
-    let o = d.next-stretch.ensures in
-    let q = c.before.before.centred-stretch.ensures in (
+    let o = d.next_stretch.ensures in
+    let q = c.before.before.centred_stretch.ensures in (
       o.high,
-      centred_turn _ _ _ _ g.requires.2 g.args.to l.i d.next-stretch.result g.requires.4.inside o l.part l.invariant.1 _ q.0,
-      three_turn _ _ _ _ g.requires.2 g.args.to l.i d.next-stretch.result g.requires.4.inside o l.part l.invariant.1 l.s l.invariant.2 _ q.1,
+      centred_turn _ _ _ _ g.requires.2 g.args.to l.i d.next_stretch.result g.requires.4.inside o l.part l.invariant.1 _ q.0,
+      three_turn _ _ _ _ g.requires.2 g.args.to l.i d.next_stretch.result g.requires.4.inside o l.part l.invariant.1 l.s l.invariant.2 _ q.1,
     )
 
 sqrt-requires : tie.Need-sqrt-requires invariant-loop decreases-loop
@@ -66,7 +66,7 @@ returns c =
     let g = d.before.before.before.before in
     let e : l.i ≡ g.args.to = omega arith in
     let o = g.requires.4 in
-    centred_end _ _ _ g.requires.2 _ d.means-over-mask.ensures l.part (centred_all _ _ _ _ _ _ o l.part (rw e at l.invariant.1)) l.s (rw e at l.invariant.2 ∙ three_all _ _ _ _ _ _ o) _ _ c.before.sqrt.ensures.0 c.sqrt2.ensures.0
+    centred_end _ _ _ g.requires.2 _ d.means_over_mask.ensures l.part (centred_all _ _ _ _ _ _ o l.part (rw e at l.invariant.1)) l.s (rw e at l.invariant.2 ∙ three_all _ _ _ _ _ _ o) _ _ c.before.sqrt.ensures.0 c.sqrt2.ensures.0
 
 pub centered-stats-in-place-spec : {M : Type 1} → statement M
 centered-stats-in-place-spec =

@@ -31,16 +31,16 @@ loop-less c =
     let l = d.before.before.loop in
     let g = d.before.before.before.before.before in
     let a = g.args in
-    let o = d.next-stretch.ensures in
-    omega (arith, o.high, stretch_further a.marks.now a.n a.to l.i d.next-stretch.result g.requires.4.inside o (omega arith))
+    let o = d.next_stretch.ensures in
+    omega (arith, o.high, stretch_further a.marks.now a.n a.to l.i d.next_stretch.result g.requires.4.inside o (omega arith))
 
 loop-again : tie.Need-loop-preserved invariant-loop decreases-loop
 loop-again c =
     let d = c.before in
     let l = d.before.before.loop in
     let g = d.before.before.before.before.before in
-    let o = d.next-stretch.ensures in
-    (o.high, both_turn _ _ _ g.args.to l.i d.next-stretch.result g.requires.4.inside o l.s l.invariant.1 _ c.means-stretch.ensures)
+    let o = d.next_stretch.ensures in
+    (o.high, both_turn _ _ _ g.args.to l.i d.next_stretch.result g.requires.4.inside o l.s l.invariant.1 _ c.means_stretch.ensures)
 
 to-f32-requires : tie.Need-to-f32-requires invariant-loop decreases-loop
 to-f32-requires c κs =
@@ -52,7 +52,7 @@ returns c =
     let l = c.before.before.before.before.loop in
     let g = c.before.before.before.before.before.before.before in
     let e : l.i ≡ g.args.to = omega arith in
-    means_of _ _ _ g.args.found l.s c.before.before.to-f32.result (rw e at l.invariant.1 ∙ both_all _ _ _ _ _ g.requires.4) g.requires.1 c.before.before.to-f32.ensures
+    means_of _ _ _ g.args.found l.s c.before.before.to_f32.result (rw e at l.invariant.1 ∙ both_all _ _ _ _ _ g.requires.4) g.requires.1 c.before.before.to_f32.ensures
 
 pub means-over-mask-spec : {M : Type 1} → statement M
 means-over-mask-spec =

@@ -73,10 +73,10 @@ loop-holds c =
     let whole : a.len ≡ a.len - 0 = omega arith in (
       omega arith,
       ones_all a.len s.requires.1 ∙ ap (λ (j : ℕ). 2 ^ j - 1) whole,
-      c.before.before.before.before.before.before.read-four.ensures ∙ fours_none xs a.n (5 * a.n) _ a.at,
-      c.before.before.before.before.read-four2.ensures ∙ fours_none xs a.n 0 _ a.at,
-      c.before.before.read-four3.ensures ∙ fours_none xs a.n a.n _ a.at,
-      c.read-four4.ensures ∙ fours_none xs a.n (3 * a.n) _ a.at,
+      c.before.before.before.before.before.before.read_four.ensures ∙ fours_none xs a.n (5 * a.n) _ a.at,
+      c.before.before.before.before.read_four2.ensures ∙ fours_none xs a.n 0 _ a.at,
+      c.before.before.read_four3.ensures ∙ fours_none xs a.n a.n _ a.at,
+      c.read_four4.ensures ∙ fours_none xs a.n (3 * a.n) _ a.at,
     )
 
 add-i : tie.Need-overflow-add-i invariant-loop decreases-loop
@@ -154,14 +154,14 @@ loop-again c =
     let xs = a.part.now in
     let n = a.n in
     let more = (inside i).0 in
-    let quad = c.before.before.before.before.before.before.before.before.read-four5.ensures ∙ s.pre.6 l.k more in
+    let quad = c.before.before.before.before.before.before.before.before.read_four5.ensures ∙ s.pre.6 l.k more in
     let here : a.at + l.k ≡ 0 + (a.at + l.k) = omega arith in (
       omega (arith, more),
       ones_turn a.len l.k l.left more l.invariant.1,
-      c.before.before.before.before.before.before.add-four.ensures ∙ fours_turn xs n (5 * n) _ a.at l.k l.a _ _ l.invariant.2 quad refl,
-      c.before.before.before.before.add-four2.ensures ∙ fours_turn xs n 0 _ a.at l.k l.b _ _ l.invariant.3 quad (ap (λ (j : ℕ). get_or xs j nan) here),
-      c.before.before.add-four3.ensures ∙ fours_turn xs n n _ a.at l.k l.c _ _ l.invariant.4 quad refl,
-      c.add-four4.ensures ∙ fours_turn xs n (3 * n) _ a.at l.k l.d _ _ l.invariant.5 quad refl,
+      c.before.before.before.before.before.before.add_four.ensures ∙ fours_turn xs n (5 * n) _ a.at l.k l.a _ _ l.invariant.2 quad refl,
+      c.before.before.before.before.add_four2.ensures ∙ fours_turn xs n 0 _ a.at l.k l.b _ _ l.invariant.3 quad (ap (λ (j : ℕ). get_or xs j nan) here),
+      c.before.before.add_four3.ensures ∙ fours_turn xs n n _ a.at l.k l.c _ _ l.invariant.4 quad refl,
+      c.add_four4.ensures ∙ fours_turn xs n (3 * n) _ a.at l.k l.d _ _ l.invariant.5 quad refl,
     )
 
 put-four-requires : tie.Need-put-four-requires invariant-loop decreases-loop
@@ -177,16 +177,16 @@ add-put-four-2 : tie.Need-overflow-add-put-four-2 invariant-loop decreases-loop
 add-put-four-2 c = omega (arith, room c.before.before.before.before.before.before.before.before.before)
 
 put-four-requires-3 : tie.Need-put-four-requires-3 invariant-loop decreases-loop
-put-four-requires-3 c κs = omega (arith, room c.before.before.before.before.before.before.before.before.before, c.before.before.before.before.before.before.before.put_four.auto, c.before.before.before.put-four2.auto)
+put-four-requires-3 c κs = omega (arith, room c.before.before.before.before.before.before.before.before.before, c.before.before.before.before.before.before.before.put_four.auto, c.before.before.before.put_four2.auto)
 
 add-put-four-3 : tie.Need-overflow-add-put-four-3 invariant-loop decreases-loop
 add-put-four-3 c = omega (arith, room c.before.before.before.before.before.before.before.before.before.before.before.before.before)
 
 put-four-requires-4 : tie.Need-put-four-requires-4 invariant-loop decreases-loop
-put-four-requires-4 c κs = omega (arith, room c.before.before.before.before.before.before.before.before.before.before.before.before.before, c.before.before.before.before.before.before.before.before.before.before.before.put_four.auto, c.before.before.before.before.before.before.before.put-four2.auto, c.before.before.before.put-four3.auto)
+put-four-requires-4 c κs = omega (arith, room c.before.before.before.before.before.before.before.before.before.before.before.before.before, c.before.before.before.before.before.before.before.before.before.before.before.put_four.auto, c.before.before.before.before.before.before.before.put_four2.auto, c.before.before.before.put_four3.auto)
 
 same_length : tie.Need-same-length invariant-loop decreases-loop
-same_length c = omega (arith, c.before.before.before.before.before.before.before.before.before.before.before.before.before.before.put_four.auto, c.before.before.before.before.before.before.before.before.before.before.put-four2.auto, c.before.before.before.before.before.before.put-four3.auto, c.before.before.put-four4.auto)
+same_length c = omega (arith, c.before.before.before.before.before.before.before.before.before.before.before.before.before.before.put_four.auto, c.before.before.before.before.before.before.before.before.before.before.put_four2.auto, c.before.before.before.before.before.before.put_four3.auto, c.before.before.put_four4.auto)
 
 returns : tie.Need-returns invariant-loop decreases-loop
 returns c =
@@ -195,7 +195,7 @@ returns c =
     let a = (start o.before).args in
     let e = ones_over a.len l.k l.left l.invariant.0 l.invariant.1 o.loop-test.false in
     more_put a.part.now a.n a.q a.at a.len a.m.now _ _ _ _ l.a l.b l.c l.d
-    c.before.before.before.before.before.before.before.before.before.before.before.before.before.before.put_four.ensures c.before.before.before.before.before.before.before.before.before.before.put-four2.ensures c.before.before.before.before.before.before.put-four3.ensures c.before.before.put-four4.ensures
+    c.before.before.before.before.before.before.before.before.before.before.before.before.before.before.put_four.ensures c.before.before.before.before.before.before.before.before.before.before.put_four2.ensures c.before.before.before.before.before.before.put_four3.ensures c.before.before.put_four4.ensures
     (rw e at l.invariant.2) (rw e at l.invariant.3) (rw e at l.invariant.4) (rw e at l.invariant.5)
 
 pub add-spread-spec : {M : Type 1} → statement M

@@ -32,7 +32,7 @@ errors-stretch-requires c κs = search rules
 loop-less : tie.Need-loop-smaller invariant-loop decreases-loop
 loop-less c =
     let d = c.before in
-    let o = d.next-stretch.ensures in
+    let o = d.next_stretch.ensures in
     let g = d.before.before.before.before.before in
     let a = g.args in
     omega (arith, stretch_further a.marks.now a.n a.to _ _ g.requires.3.inside o (omega arith), o.high)
@@ -45,9 +45,9 @@ loop-again c =
     let a = g.args in
     let n = a.n in
     let xs = a.part.now in
-    let o = d.next-stretch.ensures in (
+    let o = d.next_stretch.ensures in (
       o.high,
-      proj_stretch a.marks.now n xs (error_of n a.lambda (image n 3 xs) (image n 4 xs)) (λ k. a.lambda ⊗ get_or xs (3 * n + k) nan ⊖ get_or xs (4 * n + k) nan) (error_at n xs a.lambda) a.to l.i d.next-stretch.result g.requires.3.inside o l.ep _ l.invariant.1 c.errors-stretch.ensures,
+      proj_stretch a.marks.now n xs (error_of n a.lambda (image n 3 xs) (image n 4 xs)) (λ k. a.lambda ⊗ get_or xs (3 * n + k) nan ⊖ get_or xs (4 * n + k) nan) (error_at n xs a.lambda) a.to l.i d.next_stretch.result g.requires.3.inside o l.ep _ l.invariant.1 c.errors_stretch.ensures,
     )
 
 returns : tie.Need-returns invariant-loop decreases-loop

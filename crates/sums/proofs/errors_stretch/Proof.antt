@@ -73,7 +73,7 @@ loop-again c =
     let xs = a.part.now in (
       omega arith,
       omega arith,
-      c.add-scaled.ensures ∙ ap (λ (j : Vector3). scaled_more l.ep j (error xs a.n a.lambda l.i)) c.before.j-at.ensures ∙ range_turn (step xs a.n a.lambda) a.before a.from l.i l.ep l.invariant.0 l.invariant.2,
+      c.add_scaled.ensures ∙ ap (λ (j : Vector3). scaled_more l.ep j (error xs a.n a.lambda l.i)) c.before.j_at.ensures ∙ range_turn (step xs a.n a.lambda) a.before a.from l.i l.ep l.invariant.0 l.invariant.2,
     )
 
 returns : tie.Need-returns invariant-loop decreases-loop

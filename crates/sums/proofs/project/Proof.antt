@@ -39,7 +39,7 @@ project-stretch-requires c κs = search rules
 loop-less : tie.Need-loop-smaller invariant-loop decreases-loop
 loop-less c =
     let d = c.before.before.before in
-    let o = d.next-stretch.ensures in
+    let o = d.next_stretch.ensures in
     let g = d.before.before.before.before.before.before in
     let a = g.args in
     omega (arith, stretch_further a.marks.now a.n a.to _ _ g.requires.3.inside o (omega arith), o.high)
@@ -50,11 +50,11 @@ loop-again c =
     let l = d.before.before.loop in
     let g = d.before.before.before.before.before.before in
     let a = g.args in
-    let o = d.next-stretch.ensures in
-    let z = c.before.project-stretch in (
+    let o = d.next_stretch.ensures in
+    let z = c.before.project_stretch in (
       o.high,
       search rules,
-      sums_stretch a.marks.now a.n a.part.now _ a.to l.i d.next-stretch.result g.requires.3.inside o l.m _ l.invariant.2 z.ensures,
+      sums_stretch a.marks.now a.n a.part.now _ a.to l.i d.next_stretch.result g.requires.3.inside o l.m _ l.invariant.2 z.ensures,
     )
 
 slice-aggregate-read-four : tie.Need-slice-aggregate-read-four invariant-loop decreases-loop
@@ -96,7 +96,7 @@ returns c =
     let g = c.before.before.before.before.before.before.before.before.before.before.before.before.before in
     let a = g.args in
     let e : l.i ≡ a.to = omega (arith, l.invariant.0, c.before.before.before.before.before.before.before.before.loop-test.false) in
-    sums_end a.marks.now a.n a.part.now _ a.from a.to g.requires.3 l.m (rw e at l.invariant.2) _ _ _ _ c.before.before.before.before.before.before.read-four.ensures c.before.before.before.before.read-four2.ensures c.before.before.read-four3.ensures c.read-four4.ensures
+    sums_end a.marks.now a.n a.part.now _ a.from a.to g.requires.3 l.m (rw e at l.invariant.2) _ _ _ _ c.before.before.before.before.before.before.read_four.ensures c.before.before.before.before.read_four2.ensures c.before.before.read_four3.ensures c.read_four4.ensures
 
 pub project-spec : {M : Type 1} → statement M
 project-spec =

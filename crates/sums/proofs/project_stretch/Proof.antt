@@ -43,7 +43,7 @@ loop-again c =
     let a = s.args in
     let len = c.before.before.before.before.before.before.before.before.least in
     let o = c.before.before.before.before.before.before.spread in
-    let more = c.before.before.add-spread in (
+    let more = c.before.before.add_spread in (
       omega (arith, l.invariant.0),
       omega (arith, len.ensures, l.invariant.1),
       omega (arith, l.invariant.2, o.auto, more.auto),

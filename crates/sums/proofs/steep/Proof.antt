@@ -62,8 +62,8 @@ loop-again c =
     let a = l.before.before.before.before.args in (
       omega arith,
       omega arith,
-      omega (arith, d.steep-row.auto.0),
-      row_more a.part.now (a.w * a.h) a.w _ _ a.first l.loop.y l.loop.invariant.0 (row b, omega arith) l.loop.part _ l.loop.invariant.3 _ b.before.to-f32-short.ensures d.steep-row.ensures,
+      omega (arith, d.steep_row.auto.0),
+      row_more a.part.now (a.w * a.h) a.w _ _ a.first l.loop.y l.loop.invariant.0 (row b, omega arith) l.loop.part _ l.loop.invariant.3 _ b.before.to_f32_short.ensures d.steep_row.ensures,
     )
 
 same_length : tie.Need-same-length invariant-loop decreases-loop

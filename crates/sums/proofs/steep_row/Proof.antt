@@ -70,7 +70,7 @@ loop-again c =
     let a = c.before.before.before.before.before.before.args in (
       omega arith,
       simp length-set l.invariant.1,
-      pixel_more a.part.now a.n a.row a.ct a.st a.yc a.ys a.w (omega arith) l.x (omega arith) l.part l.invariant.2 _ c.before.before.to-f32-short.ensures,
+      pixel_more a.part.now a.n a.row a.ct a.st a.yc a.ys a.w (omega arith) l.x (omega arith) l.part l.invariant.2 _ c.before.before.to_f32_short.ensures,
     )
 
 same_length : tie.Need-same-length invariant-loop decreases-loop

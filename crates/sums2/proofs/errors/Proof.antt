@@ -31,7 +31,7 @@ errors-stretch-requires c κs = search rules
 loop-less : tie.Need-loop-smaller invariant-loop decreases-loop
 loop-less c =
     let d = c.before in
-    let o = d.next-stretch.ensures in
+    let o = d.next_stretch.ensures in
     let g = d.before.before.before.before.before in
     let a = g.args in
     omega (arith, stretch_further a.marks.now a.n a.to _ _ g.requires.3.inside o (omega arith), o.high)
@@ -45,9 +45,9 @@ loop-again c =
     let n = a.n in
     let ws = a.marks.now in
     let xs = a.part.now in
-    let o = d.next-stretch.ensures in (
+    let o = d.next_stretch.ensures in (
       o.high,
-      fold_stretch ws n (error_step ws n xs a.lambda) (0f, 0f) (λ s i. scaled_more s (get_or xs i nan, get_or xs (n + i) nan) (a.lambda ⊗ get_or xs (3 * n + i) nan ⊖ get_or xs (4 * n + i) nan)) (error_same ws n xs a.lambda) a.to l.i d.next-stretch.result g.requires.3.inside o l.ep _ l.invariant.1 c.errors-stretch.ensures,
+      fold_stretch ws n (error_step ws n xs a.lambda) (0f, 0f) (λ s i. scaled_more s (get_or xs i nan, get_or xs (n + i) nan) (a.lambda ⊗ get_or xs (3 * n + i) nan ⊖ get_or xs (4 * n + i) nan)) (error_same ws n xs a.lambda) a.to l.i d.next_stretch.result g.requires.3.inside o l.ep _ l.invariant.1 c.errors_stretch.ensures,
     )
 
 returns : tie.Need-returns invariant-loop decreases-loop

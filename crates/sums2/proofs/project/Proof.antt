@@ -28,7 +28,7 @@ project-stretch-requires c κs = search rules
 loop-less : tie.Need-loop-smaller invariant-loop decreases-loop
 loop-less c =
     let d = c.before in
-    let o = d.next-stretch.ensures in
+    let o = d.next_stretch.ensures in
     let g = d.before.before.before.before.before in
     let a = g.args in
     omega (arith, stretch_further a.marks.now a.n a.to _ _ g.requires.3.inside o (omega arith), o.high)
@@ -41,9 +41,9 @@ loop-again c =
     let a = g.args in
     let ws = a.marks.now in
     let xs = a.part.now in
-    let o = d.next-stretch.ensures in (
+    let o = d.next_stretch.ensures in (
       o.high,
-      fold_stretch ws a.n (seven_step ws a.n xs) (no_seven ws a.n xs) (seven_at xs a.n) (seven_same ws a.n xs) a.to l.i d.next-stretch.result g.requires.3.inside o l.s _ l.invariant.1 c.project-stretch.ensures,
+      fold_stretch ws a.n (seven_step ws a.n xs) (no_seven ws a.n xs) (seven_at xs a.n) (seven_same ws a.n xs) a.to l.i d.next_stretch.result g.requires.3.inside o l.s _ l.invariant.1 c.project_stretch.ensures,
     )
 
 returns : tie.Need-returns invariant-loop decreases-loop

@@ -72,7 +72,7 @@ loop-again c =
     let a = c.before.before.before.before.before.before.before.before.args in (
       omega arith,
       omega arith,
-      c.add-products.ensures ∙ range_turn (seven_at a.part.now a.n) a.before a.from l.i l.s l.invariant.0 l.invariant.2,
+      c.add_products.ensures ∙ range_turn (seven_at a.part.now a.n) a.before a.from l.i l.s l.invariant.0 l.invariant.2,
     )
 
 returns : tie.Need-returns invariant-loop decreases-loop

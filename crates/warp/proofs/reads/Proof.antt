@@ -32,7 +32,7 @@ add-clear-stretch c = search rules
 
 clear-stretch-requires : tie.Need-clear-stretch-requires invariant-loop decreases-loop
 clear-stretch-requires c κs =
-    let o = c.before.next-stretch.ensures in
+    let o = c.before.next_stretch.ensures in
     let l = c.before.before.before.loop in
     (o.low, omega (arith, o.order, o.high), omega (arith, l.invariant.part_length))
 
@@ -45,12 +45,12 @@ sub-reads-stretch-2 c = search rules
 reads-stretch-requires : tie.Need-reads-stretch-requires invariant-loop decreases-loop
 reads-stretch-requires c κs =
     let d = c.before.before.before.before.before.before.before in
-    let r = d.next-stretch.result in
-    let o = d.next-stretch.ensures in
+    let r = d.next_stretch.result in
+    let o = d.next_stretch.ensures in
     let l = d.before.before.loop in
     let s = d.before.before.before.before.before.before.before.before in
     let a = s.args in
-    let kept = c.before.before.before.before.before.clear-stretch.auto.0 in
+    let kept = c.before.before.before.before.before.clear_stretch.auto.0 in
     let f = s.requires in (
       omega arith,
       (
@@ -73,8 +73,8 @@ loop-less c =
     let l = d.before.before.loop in
     let s = d.before.before.before.before.before.before.before.before in
     let a = s.args in
-    let o = d.next-stretch.ensures in
-    omega (arith, o.high, o.low, o.order, stretch_further a.marks.now a.n (a.at + a.len) (a.at + l.x) d.next-stretch.result s.requires.0 o (omega arith))
+    let o = d.next_stretch.ensures in
+    omega (arith, o.high, o.low, o.order, stretch_further a.marks.now a.n (a.at + a.len) (a.at + l.x) d.next_stretch.result s.requires.0 o (omega arith))
 
 loop-again : tie.Need-loop-preserved invariant-loop decreases-loop
 loop-again c =
@@ -82,8 +82,8 @@ loop-again c =
     let l = d.before.before.loop in
     let s = d.before.before.before.before.before.before.before.before in
     let a = s.args in
-    let o = d.next-stretch.ensures in
-    reads_turn a.n a.w a.at a.len a.marks.now a.spots.now a.across.now a.down.now a.part.now (omega arith) l.part l.x d.next-stretch.result o l.invariant _ c.before.before.before.before.before.before.before.before.before.clear-stretch.ensures _ c.before.before.before.reads-stretch.ensures
+    let o = d.next_stretch.ensures in
+    reads_turn a.n a.w a.at a.len a.marks.now a.spots.now a.across.now a.down.now a.part.now (omega arith) l.part l.x d.next_stretch.result o l.invariant _ c.before.before.before.before.before.before.before.before.before.clear_stretch.ensures _ c.before.before.before.reads_stretch.ensures
 
 same_length : tie.Need-same-length invariant-loop decreases-loop
 same_length c = search rules

@@ -68,10 +68,10 @@ loop-again c =
     let s = w.before.before.before.before.before.before.before.before.before.before.before.before.before.before.before.before in
     let a = s.args in
     let i = l.invariant in
-    let k = w.warp-piece.auto in
+    let k = w.warp_piece.auto in
     let few = w.before.before.before.before.before.before.before.least.ensures in
     let room = row_in a.w a.y a.h s.requires.1 in (
-      onward_more a.map a.w a.h (a.y * a.w) l.x _ (omega (arith, room, i.1, few)) a.part.now a.marks.now (s.requires.2, s.requires.3) l.part l.marks i.0 _ _ w.warp-piece.ensures,
+      onward_more a.map a.w a.h (a.y * a.w) l.x _ (omega (arith, room, i.1, few)) a.part.now a.marks.now (s.requires.2, s.requires.3) l.part l.marks i.0 _ _ w.warp_piece.ensures,
       omega (arith, few, i.1),
       k.0 ∙ i.2,
       k.1.0 ∙ i.3,

@@ -25,10 +25,10 @@ abbrev decreases-loop : tie.decreases-loop
 decreases-loop part₀ marks₀ map w h spots₀ across₀ down₀ flags₀ words y₀ part marks spots across down flags y = h - y
 
 -- the words are cleared, so that they hold no mark yet
-cleared : (z : tie.After-fill-words invariant-loop decreases-loop) → let a = z.before.before.before.before.args in z.fill-words.new.0 ≡ put a.marks.now 0 (words_to (marks_of a.map a.w a.h) (a.w * a.h) 0)
+cleared : (z : tie.After-fill-words invariant-loop decreases-loop) → let a = z.before.before.before.before.args in z.fill_words.new.0 ≡ put a.marks.now 0 (words_to (marks_of a.map a.w a.h) (a.w * a.h) 0)
 cleared z =
     let a = z.before.before.before.before.args in
-    z.fill-words.ensures ∙ ap (λ (k : ℕ). put a.marks.now 0 (tab k (λ _. 0))) (omega arith) ∙ ap (put a.marks.now 0) (words_none (marks_of a.map a.w a.h) (a.w * a.h))
+    z.fill_words.ensures ∙ ap (λ (k : ℕ). put a.marks.now 0 (tab k (λ _. 0))) (omega arith) ∙ ap (put a.marks.now 0) (words_none (marks_of a.map a.w a.h) (a.w * a.h))
 
 mul_words : tie.Need-overflow-mul-words invariant-loop decreases-loop
 mul_words c = search rules
@@ -66,7 +66,7 @@ warp-row-requires c κs =
     let s = c.before.before.before.before.before.before.before.before.before.before.before.before.before.before in
     let a = s.args in
     let i = l.invariant in
-    let size = z.fill-words.auto.0 in
+    let size = z.fill_words.auto.0 in
     let taken : l.y < a.h = omega arith in (
       s.requires.0,
       taken,
@@ -90,11 +90,11 @@ loop-again c =
     let s = z.before.before.before.before in
     let a = s.args in
     let i = l.invariant in
-    let k = r.warp-row.auto in
-    let size = z.fill-words.auto.0 in
+    let k = r.warp_row.auto in
+    let size = z.fill_words.auto.0 in
     let taken = r.before.before.before.before.before.before.before.loop-test.true in
     let next : l.y * a.w + a.w ≡ (l.y + 1) * a.w = omega arith in (
-      rw (sym next) (onward_more a.map a.w a.h 0 (l.y * a.w) a.w (omega (arith, row_in a.w l.y a.h taken)) a.part.now _ (s.requires.1, omega (arith, size, s.requires.2)) l.part l.marks i.0 _ _ (rw (zero-add (l.y * a.w)) r.warp-row.ensures)),
+      rw (sym next) (onward_more a.map a.w a.h 0 (l.y * a.w) a.w (omega (arith, row_in a.w l.y a.h taken)) a.part.now _ (s.requires.1, omega (arith, size, s.requires.2)) l.part l.marks i.0 _ _ (rw (zero-add (l.y * a.w)) r.warp_row.ensures)),
       omega arith,
       k.0 ∙ i.2,
       k.1.0 ∙ i.3,
@@ -109,20 +109,20 @@ marked-rows-requires c κs =
     let l = c.before.before.loop in
     let z = c.before.before.before.before.before in
     let s = z.before.before.before.before in
-    (s.requires.0, omega (arith, l.invariant.3, z.fill-words.auto.0, s.requires.2))
+    (s.requires.0, omega (arith, l.invariant.3, z.fill_words.auto.0, s.requires.2))
 
 count-requires : tie.Need-count-requires invariant-loop decreases-loop
 count-requires c κs =
     let l = c.before.before.before.before.loop in
     let z = c.before.before.before.before.before.before.before in
     let s = z.before.before.before.before in
-    (omega (arith, l.invariant.3, z.fill-words.auto.0, s.requires.2), omega (arith, mul-le-mul s.requires.0.w_most s.requires.0.h_most))
+    (omega (arith, l.invariant.3, z.fill_words.auto.0, s.requires.2), omega (arith, mul-le-mul s.requires.0.w_most s.requires.0.h_most))
 
 same_length : tie.Need-same-length invariant-loop decreases-loop
 same_length c = c.before.before.before.before.before.loop.invariant.2
 
 same-length-2 : tie.Need-same-length-2 invariant-loop decreases-loop
-same-length-2 c = c.before.before.before.before.before.loop.invariant.3 ∙ c.before.before.before.before.before.before.before.before.fill-words.auto.0
+same-length-2 c = c.before.before.before.before.before.loop.invariant.3 ∙ c.before.before.before.before.before.before.before.before.fill_words.auto.0
 
 returns : tie.Need-returns invariant-loop decreases-loop
 returns c =
@@ -131,7 +131,7 @@ returns c =
     let s = z.before.before.before.before in
     let a = s.args in
     let e : l.y ≡ a.h = omega (arith, l.invariant.1) in
-    onward_all a.map a.w a.h a.part.now l.part a.marks.now _ l.marks _ s.requires.2 (cleared z) (rw (mul_comm a.w a.h) (rw e at l.invariant.0)) (c.count.ensures ∙ ap (ones_of l.marks) (omega arith)) c.before.before.marked-rows.ensures
+    onward_all a.map a.w a.h a.part.now l.part a.marks.now _ l.marks _ s.requires.2 (cleared z) (rw (mul_comm a.w a.h) (rw e at l.invariant.0)) (c.count.ensures ∙ ap (ones_of l.marks) (omega arith)) c.before.before.marked_rows.ensures
 
 pub warp-three-inverse-map-spec : {M : Type 1} → statement M
 warp-three-inverse-map-spec =

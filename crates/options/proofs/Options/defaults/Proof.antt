@@ -23,7 +23,7 @@ returns : tie.Need-returns
 unfolding options_of
 returns c =
     let cfg = c.before.before.defaults.result in
-    ap (λ (v : ℕ). record { eps = v; passes = cfg.max_iter; filter = cfg.gauss_filt_size; edge = c.edge.result }) c.before.to-bits.ensures
+    ap (λ (v : ℕ). record { eps = v; passes = cfg.max_iter; filter = cfg.gauss_filt_size; edge = c.edge.result }) c.before.to_bits.ensures
     ∙ ap (λ (v : ℕ). record { eps = toBits binary32 cfg.eps; passes = cfg.max_iter; filter = cfg.gauss_filt_size; edge = v }) c.edge.ensures
     ∙ ap options_of c.before.before.defaults.ensures
 

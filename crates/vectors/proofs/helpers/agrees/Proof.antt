@@ -141,7 +141,7 @@ returns-10 : tie.Need-returns-10
 unfolding helper_agrees pick
 returns-10 c =
     let words = c.before.before.before.before.before.before.args.words.now in
-    rw (c.as-usize.ensures, c.before.before.float.ensures, c.before.before.before.before.word.ensures, c.before.before.before.word2.ensures) (sym (ap (λ (k : ℕ). helper_agrees k words) c.before.match.keys10))
+    rw (c.as_usize.ensures, c.before.before.float.ensures, c.before.before.before.before.word.ensures, c.before.before.before.word2.ensures) (sym (ap (λ (k : ℕ). helper_agrees k words) c.before.match.keys10))
 
 returns-11 : tie.Need-returns-11
 unfolding helper_agrees

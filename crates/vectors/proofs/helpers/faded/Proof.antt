@@ -27,7 +27,7 @@ same-requires : tie.Need-same-requires
 same-requires c κs = search rules
 
 returns : tie.Need-returns
-returns c = and_passed (both c.before.before.before.if1.true c.before.before.if2.true) (c.same.ensures ∙ ap (λ (y : Float). has_bits y c.before.before.before.before.args.w) c.before.exp-neg.ensures)
+returns c = and_passed (both c.before.before.before.if1.true c.before.before.if2.true) (c.same.ensures ∙ ap (λ (y : Float). has_bits y c.before.before.before.before.args.w) c.before.exp_neg.ensures)
 
 returns-2 : tie.Need-returns-2
 returns-2 c = rw (c.before.if1.true, c.if2.false)

@@ -15,7 +15,7 @@ same-requires : tie.Need-same-requires
 same-requires c κs = search rules
 
 returns : tie.Need-returns
-returns c = and_passed (le-leb _ 16777216 c.before.before.if1.true) (c.same.ensures ∙ ap (λ (y : Float). has_bits y c.before.before.before.args.w) c.before.to-f32.ensures)
+returns c = and_passed (le-leb _ 16777216 c.before.before.if1.true) (c.same.ensures ∙ ap (λ (y : Float). has_bits y c.before.before.before.args.w) c.before.to_f32.ensures)
 
 returns-2 : tie.Need-returns-2
 returns-2 c = sym (first_failed _ (lt-leb _ 16777216 c.if1.false))

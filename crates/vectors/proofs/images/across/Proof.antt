@@ -17,7 +17,7 @@ sides-at-requires c κs = search rules
 
 returns : tie.Need-returns
 unfolding gradient_agrees
-returns c = rw (unfit_of c.before.before.sides-at.ensures c.if1.true)
+returns c = rw (unfit_of c.before.before.sides_at.ensures c.if1.true)
 
 slice-aggregate-floats : tie.Need-slice-aggregate-floats
 slice-aggregate-floats c = search rules
@@ -42,8 +42,8 @@ same-floats-requires c κs = search rules
 
 returns-2 : tie.Need-returns-2
 returns-2 c =
-    let s = c.before.before.before.before.before.before.before.before.before.before.before.sides-at.result in
-    c.same-floats.ensures ∙ gradient_told c.before.before.before.before.before.before.before.before.before.before.before.before.before.args.words.now c.before.before.before.before.before.before.before.before.before.before.before.sides-at.ensures (not-false s.ok c.before.before.before.before.before.before.before.before.before.if1.false) gradient_x length_gradient_x 1 s.n _ _ _ (sym (one-mul s.n)) (omega (arith, c.before.before.before.before.before.before.before.before.before.before.before.sides-at.ensures.few)) c.before.before.before.before.before.before.before.floats.ensures c.before.before.before.before.gradient-x.ensures
+    let s = c.before.before.before.before.before.before.before.before.before.before.before.sides_at.result in
+    c.same_floats.ensures ∙ gradient_told c.before.before.before.before.before.before.before.before.before.before.before.before.before.args.words.now c.before.before.before.before.before.before.before.before.before.before.before.sides_at.ensures (not-false s.ok c.before.before.before.before.before.before.before.before.before.if1.false) gradient_x length_gradient_x 1 s.n _ _ _ (sym (one-mul s.n)) (omega (arith, c.before.before.before.before.before.before.before.before.before.before.before.sides_at.ensures.few)) c.before.before.before.before.before.before.before.floats.ensures c.before.before.before.before.gradient_x.ensures
 
 pub across-spec : {M : Type 1} → statement M
 across-spec =

@@ -28,7 +28,7 @@ same-floats-requires : tie.Need-same-floats-requires
 same-floats-requires c κs = search rules
 
 returns-2 : tie.Need-returns-2
-returns-2 c = c.same-floats.ensures ∙ kernel_told c.before.before.before.before.before.before.before.before.args.words.now _ c.before.before.before.before.before.before.filter.ensures c.before.before.before.before.before.if1.false _ _ c.before.before.before.gaussian-kernel.ensures
+returns-2 c = c.same_floats.ensures ∙ kernel_told c.before.before.before.before.before.before.before.before.args.words.now _ c.before.before.before.before.before.before.filter.ensures c.before.before.before.before.before.if1.false _ _ c.before.before.before.gaussian_kernel.ensures
 
 pub kernel-spec : {M : Type 1} → statement M
 kernel-spec =

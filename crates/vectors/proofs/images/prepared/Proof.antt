@@ -19,18 +19,18 @@ sides-at-requires-2 c κs = search rules
 
 returns : tie.Need-returns
 unfolding prepared_agrees
-returns c = rw (unfit_of c.before.before.before.sides-at.ensures c.if1.true)
+returns c = rw (unfit_of c.before.before.before.sides_at.ensures c.if1.true)
 
 returns-2 : tie.Need-returns-2
 unfolding prepared_agrees
-returns-2 c = rw (fit_of c.before.before.before.before.before.sides-at.ensures c.before.before.if1.false, unfit_of c.before.before.before.before.sides-at2.ensures c.if2.true)
+returns-2 c = rw (fit_of c.before.before.before.before.before.sides_at.ensures c.before.before.if1.false, unfit_of c.before.before.before.before.sides_at2.ensures c.if2.true)
 
 filter-requires : tie.Need-filter-requires
 filter-requires c κs = search rules
 
 returns-3 : tie.Need-returns-3
 unfolding prepared_agrees
-returns-3 c = rw (fit_of c.before.before.before.before.before.before.before.sides-at.ensures c.before.before.before.before.if1.false, fit_of c.before.before.before.before.before.before.sides-at2.ensures c.before.before.if2.false, no_filter _ _ c.before.filter.ensures c.if3.true)
+returns-3 c = rw (fit_of c.before.before.before.before.before.before.before.sides_at.ensures c.before.before.before.before.if1.false, fit_of c.before.before.before.before.before.before.sides_at2.ensures c.before.before.if2.false, no_filter _ _ c.before.filter.ensures c.if3.true)
 
 slice-aggregate-bytes : tie.Need-slice-aggregate-bytes
 slice-aggregate-bytes c = search rules
@@ -45,14 +45,14 @@ array-share-prefix-src : tie.Need-array-share-prefix-src
 array-share-prefix-src c = search rules
 
 -- the frame's bytes are the front of the array
-front : (c : tie.After-src3) → length (take c.before.before.before.before.before.before.before.before.before.before.before.before.sides-at.result.n c.before.before.before.bytes.new.1.1.0) ≡ c.before.before.before.before.before.before.before.before.before.before.before.before.sides-at.result.n
-front c = length-take-le _ _ (omega (arith, c.before.before.before.before.before.before.before.before.before.before.before.before.sides-at.ensures.few, c.before.before.before.bytes.auto.1.1.0))
+front : (c : tie.After-src3) → length (take c.before.before.before.before.before.before.before.before.before.before.before.before.sides_at.result.n c.before.before.before.bytes.new.1.1.0) ≡ c.before.before.before.before.before.before.before.before.before.before.before.before.sides_at.result.n
+front c = length-take-le _ _ (omega (arith, c.before.before.before.before.before.before.before.before.before.before.before.before.sides_at.ensures.few, c.before.before.before.bytes.auto.1.1.0))
 
 slice-aggregate-prepare-2 : tie.Need-slice-aggregate-prepare-2
 slice-aggregate-prepare-2 c = sym (front c)
 
 prepare-requires : tie.Need-prepare-requires
-prepare-requires c κs = let s = c.before.before.before.before.before.before.before.before.before.before.before.before.sides-at.ensures in let t = c.before.before.before.before.before.before.before.before.before.before.before.sides-at2.ensures in let k = c.before.before.before.before.before.before.filter.ensures in (record { w_least = s.w_least; w_most = s.w_most; h_least = s.h_least; h_most = s.h_most }, record { w_least = t.w_least; w_most = t.w_most; h_least = t.h_least; h_most = t.h_most }, front c ∙ s.pixels, omega arith, omega (arith, t.pixels, t.few), record { odd = k.odd (omega (arith, c.before.before.before.before.before.if3.false)); most = k.most })
+prepare-requires c κs = let s = c.before.before.before.before.before.before.before.before.before.before.before.before.sides_at.ensures in let t = c.before.before.before.before.before.before.before.before.before.before.before.sides_at2.ensures in let k = c.before.before.before.before.before.before.filter.ensures in (record { w_least = s.w_least; w_most = s.w_most; h_least = s.h_least; h_most = s.h_most }, record { w_least = t.w_least; w_most = t.w_most; h_least = t.h_least; h_most = t.h_most }, front c ∙ s.pixels, omega arith, omega (arith, t.pixels, t.few), record { odd = k.odd (omega (arith, c.before.before.before.before.before.if3.false)); most = k.most })
 
 add-same-floats : tie.Need-overflow-add-same-floats
 add-same-floats c = search rules
@@ -68,9 +68,9 @@ same-floats-requires c κs = search rules
 
 returns-4 : tie.Need-returns-4
 returns-4 c =
-    let s = c.before.before.before.before.before.before.before.before.before.before.before.before.before.before.before.before.before.sides-at.result in
-    let t = c.before.before.before.before.before.before.before.before.before.before.before.before.before.before.before.before.sides-at2.result in
-    c.same-floats.ensures ∙ prepared_told c.before.before.before.before.before.before.before.before.before.before.before.before.before.before.before.before.before.before.before.args.words.now c.before.before.before.before.before.before.before.before.before.before.before.before.before.before.before.before.before.sides-at.ensures c.before.before.before.before.before.before.before.before.before.before.before.before.before.before.before.before.sides-at2.ensures (not-false s.ok c.before.before.before.before.before.before.before.before.before.before.before.before.before.before.if1.false) (not-false t.ok c.before.before.before.before.before.before.before.before.before.before.before.before.if2.false) _ c.before.before.before.before.before.before.before.before.before.before.before.filter.ensures (omega (arith, c.before.before.before.before.before.before.before.before.before.before.if3.false)) _ _ _ (omega (arith, c.before.before.before.before.before.before.before.before.before.before.before.before.before.before.before.before.sides-at2.ensures.few)) c.before.before.before.before.before.before.before.before.bytes.ensures c.before.before.before.before.prepare.ensures
+    let s = c.before.before.before.before.before.before.before.before.before.before.before.before.before.before.before.before.before.sides_at.result in
+    let t = c.before.before.before.before.before.before.before.before.before.before.before.before.before.before.before.before.sides_at2.result in
+    c.same_floats.ensures ∙ prepared_told c.before.before.before.before.before.before.before.before.before.before.before.before.before.before.before.before.before.before.before.args.words.now c.before.before.before.before.before.before.before.before.before.before.before.before.before.before.before.before.before.sides_at.ensures c.before.before.before.before.before.before.before.before.before.before.before.before.before.before.before.before.sides_at2.ensures (not-false s.ok c.before.before.before.before.before.before.before.before.before.before.before.before.before.before.if1.false) (not-false t.ok c.before.before.before.before.before.before.before.before.before.before.before.before.if2.false) _ c.before.before.before.before.before.before.before.before.before.before.before.filter.ensures (omega (arith, c.before.before.before.before.before.before.before.before.before.before.if3.false)) _ _ _ (omega (arith, c.before.before.before.before.before.before.before.before.before.before.before.before.before.before.before.before.sides_at2.ensures.few)) c.before.before.before.before.before.before.before.before.bytes.ensures c.before.before.before.before.prepare.ensures
 
 pub prepared-spec : {M : Type 1} → statement M
 prepared-spec =

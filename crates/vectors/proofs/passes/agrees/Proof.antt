@@ -34,7 +34,7 @@ returns-3 c = c.inverted.ensures ∙ sym (ap (λ (k : ℕ). pass_agrees k c.befo
 
 returns-4 : tie.Need-returns-4
 unfolding pass_agrees pick
-returns-4 c = c.rows-marked.ensures ∙ sym (ap (λ (k : ℕ). pass_agrees k c.before.before.before.args.words.now) c.before.match.keys4)
+returns-4 c = c.rows_marked.ensures ∙ sym (ap (λ (k : ℕ). pass_agrees k c.before.before.before.args.words.now) c.before.match.keys4)
 
 returns-5 : tie.Need-returns-5
 unfolding pass_agrees

@@ -104,9 +104,9 @@ returns-2 c =
     let words = n.before.before.args.words.now in
     let few = t.if1.false in
     and_passed (le-leb _ 1024 few) (
-    c.told-marked.ensures
+    c.told_marked.ensures
     ∙ stats_told words n.word.result few _ _ _ b.bytes.ensures (search rules) p.packed.ensures
-    _ _ _ _ _ (search rules) e.floats.ensures g.floats2.ensures z.centered-stats-in-place.ensures (omega (arith, few, z.centered-stats-in-place.auto.0, g.floats2.auto.1.1.1.0, e.floats.auto.1.1.1.0))
+    _ _ _ _ _ (search rules) e.floats.ensures g.floats2.ensures z.centered_stats_in_place.ensures (omega (arith, few, z.centered_stats_in_place.auto.0, g.floats2.auto.1.1.1.0, e.floats.auto.1.1.1.0))
     )
     ∙ stats_agree_lem words n.word.result n.word.ensures
 

@@ -38,14 +38,14 @@ same-floats-requires c κs = search rules
 returns : tie.Need-returns
 returns c =
     let words = c.before.before.before.before.before.before.args.words.now in
-    ap (λ (w : ℕ). eqb w 0) c.word.ensures ∙ sym (ap (inverse_told words) c.before.enum_told.given.1) ∙ inverse_told_lem words c.before.before.before.before.matrix-at.ensures c.before.before.before.try-inverse.ensures
+    ap (λ (w : ℕ). eqb w 0) c.word.ensures ∙ sym (ap (inverse_told words) c.before.enum_told.given.1) ∙ inverse_told_lem words c.before.before.before.before.matrix_at.ensures c.before.before.before.try_inverse.ensures
 
 returns-2 : tie.Need-returns-2
 returns-2 c =
     let words = c.before.before.before.before.before.before.before.before.before.before.args.words.now in
-    and_passed (eq-eqb (stored_at words 10) 1 (sym c.before.before.before.word2.ensures ∙ c.before.before.if1.true)) c.same-floats.ensures
+    and_passed (eq-eqb (stored_at words 10) 1 (sym c.before.before.before.word2.ensures ∙ c.before.before.if1.true)) c.same_floats.ensures
     ∙ sym (ap (inverse_told words) c.before.before.before.before.before.m.given.1)
-    ∙ inverse_told_lem words c.before.before.before.before.before.before.before.before.matrix-at.ensures c.before.before.before.before.before.before.before.try-inverse.ensures
+    ∙ inverse_told_lem words c.before.before.before.before.before.before.before.before.matrix_at.ensures c.before.before.before.before.before.before.before.try_inverse.ensures
 
 returns-3 : tie.Need-returns-3
 returns-3 c =
@@ -54,7 +54,7 @@ returns-3 c =
     fails
     ∙ sym (first_failed _ (ap (λ (w : ℕ). eqb w 1) (sym c.before.word2.ensures) ∙ fails))
     ∙ sym (ap (inverse_told words) c.before.before.before.m.given.1)
-    ∙ inverse_told_lem words c.before.before.before.before.before.before.matrix-at.ensures c.before.before.before.before.before.try-inverse.ensures
+    ∙ inverse_told_lem words c.before.before.before.before.before.before.matrix_at.ensures c.before.before.before.before.before.try_inverse.ensures
 
 pub inverted-spec : {M : Type 1} → statement M
 inverted-spec =

@@ -33,7 +33,7 @@ returns c =
     let f = z.before.before.before in
     let s = f.before.before.before.before in
     let a = s.args in
-    words_made a.marks.now _ _ a.n (search rules) f.flagged.ensures a.out.now _ _ s.requires.2 z.fill-words.ensures c.before.before.pack.ensures
+    words_made a.marks.now _ _ a.n (search rules) f.flagged.ensures a.out.now _ _ s.requires.2 z.fill_words.ensures c.before.before.pack.ensures
 
 pub packed-spec : {M : Type 1} → statement M
 packed-spec =

@@ -20,7 +20,7 @@ sides-at-requires c κs = search rules
 
 returns : tie.Need-returns
 unfolding rows_agree
-returns c = rw (unfit_of c.before.before.sides-at.ensures c.if1.true)
+returns c = rw (unfit_of c.before.before.sides_at.ensures c.if1.true)
 
 slice-aggregate-bytes : tie.Need-slice-aggregate-bytes
 slice-aggregate-bytes c = search rules
@@ -56,9 +56,9 @@ returns-2 c =
     let b = p.before.before.before.before in
     let t = b.before.before in
     let s = t.before.before in
-    let f = s.sides-at.ensures in
+    let f = s.sides_at.ensures in
     c.rows_told.ensures
-    ∙ rows_told_lem s.before.before.args.words.now f (not-false s.sides-at.result.ok t.if1.false) _ _ _ b.bytes.ensures (omega (arith, f.few)) p.packed.ensures _ z.marked-rows.ensures
+    ∙ rows_told_lem s.before.before.args.words.now f (not-false s.sides_at.result.ok t.if1.false) _ _ _ b.bytes.ensures (omega (arith, f.few)) p.packed.ensures _ z.marked_rows.ensures
 
 pub rows-marked-spec : {M : Type 1} → statement M
 rows-marked-spec =

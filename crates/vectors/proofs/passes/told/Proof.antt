@@ -23,7 +23,7 @@ same-floats-requires : tie.Need-same-floats-requires
 same-floats-requires c κs = search rules
 
 returns : tie.Need-returns
-returns c = rw (sym c.before.same-floats.ensures ∙ not-true _ c.if1.true)
+returns c = rw (sym c.before.same_floats.ensures ∙ not-true _ c.if1.true)
 
 mul-same-bytes : tie.Need-overflow-mul-same-bytes
 mul-same-bytes c = search rules
@@ -45,12 +45,12 @@ word-requires c κs = search rules
 
 returns-2 : tie.Need-returns-2
 returns-2 c =
-    and_passed (both (sym c.before.before.before.before.same-floats.ensures ∙ not-false _ c.before.before.before.if1.false) (sym c.before.before.same_bytes.ensures ∙ c.before.if2.true)) (ap (eqb c.before.before.before.before.before.before.before.before.args.found) c.word.ensures)
+    and_passed (both (sym c.before.before.before.before.same_floats.ensures ∙ not-false _ c.before.before.before.if1.false) (sym c.before.before.same_bytes.ensures ∙ c.before.if2.true)) (ap (eqb c.before.before.before.before.before.before.before.before.args.found) c.word.ensures)
 
 returns-3 : tie.Need-returns-3
 returns-3 c =
     let fails = c.if2.false in
-    let first = sym c.before.before.before.same-floats.ensures ∙ not-false _ c.before.before.if1.false in
+    let first = sym c.before.before.before.same_floats.ensures ∙ not-false _ c.before.before.if1.false in
     fails ∙ rw (first, sym c.before.same_bytes.ensures ∙ fails)
 
 pub told-spec : {M : Type 1} → statement M

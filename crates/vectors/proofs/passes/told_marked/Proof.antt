@@ -21,7 +21,7 @@ same-marked-requires c κs = search rules
 
 returns : tie.Need-returns
 unfolding image
-returns c = rw (sym c.before.same-marked.ensures ∙ not-true _ c.if1.true)
+returns c = rw (sym c.before.same_marked.ensures ∙ not-true _ c.if1.true)
 
 mul-same-marked-3 : tie.Need-overflow-mul-same-marked-3
 mul-same-marked-3 c = search rules
@@ -50,16 +50,16 @@ same-floats-requires c κs = search rules
 returns-2 : tie.Need-returns-2
 unfolding image
 returns-2 c =
-    let first = sym c.before.before.before.before.before.same-marked.ensures ∙ not-false _ c.before.before.before.before.if1.false in
-    let second = sym c.before.before.before.same-marked2.ensures ∙ c.before.before.if2.true in
-    and_passed (both first second) c.same-floats.ensures
+    let first = sym c.before.before.before.before.before.same_marked.ensures ∙ not-false _ c.before.before.before.before.if1.false in
+    let second = sym c.before.before.before.same_marked2.ensures ∙ c.before.before.if2.true in
+    and_passed (both first second) c.same_floats.ensures
 
 returns-3 : tie.Need-returns-3
 unfolding image
 returns-3 c =
     let fails = c.if2.false in
-    let first = sym c.before.before.before.same-marked.ensures ∙ not-false _ c.before.before.if1.false in
-    fails ∙ rw (first, sym c.before.same-marked2.ensures ∙ fails)
+    let first = sym c.before.before.before.same_marked.ensures ∙ not-false _ c.before.before.if1.false in
+    fails ∙ rw (first, sym c.before.same_marked2.ensures ∙ fails)
 
 pub told-marked-spec : {M : Type 1} → statement M
 told-marked-spec =

@@ -40,7 +40,7 @@ loop-again : tie.Need-loop-preserved invariant-loop decreases-loop
 loop-again c =
     let l = c.before.before.loop in
     let a = c.before.before.before.before.before.args in
-    (omega arith, simp length-set l.invariant.1, rw l.invariant.2 (front_more a.out.now (bit_at a.marks.now) l.i _ (omega arith) (ap bool_byte c.is-marked.ensures ∙ bit_byte a.marks.now l.i)))
+    (omega arith, simp length-set l.invariant.1, rw l.invariant.2 (front_more a.out.now (bit_at a.marks.now) l.i _ (omega arith) (ap bool_byte c.is_marked.ensures ∙ bit_byte a.marks.now l.i)))
 
 same_length : tie.Need-same-length invariant-loop decreases-loop
 same_length c = search rules

@@ -14,7 +14,7 @@ sides-at-requires c κs = search rules
 
 returns : tie.Need-returns
 unfolding warp_agrees
-returns c = rw (unfit_of c.before.before.sides-at.ensures c.if1.true)
+returns c = rw (unfit_of c.before.before.sides_at.ensures c.if1.true)
 
 mul-floats : tie.Need-overflow-mul-floats
 mul-floats c = search rules
@@ -63,10 +63,10 @@ returns-2 c =
     let e = m.before.before.before.before in
     let t = e.before.before in
     let s = t.before.before in
-    let f = s.sides-at.ensures in
+    let f = s.sides_at.ensures in
     c.told.ensures
-    ∙ warp_told s.before.before.args.words.now f (not-false s.sides-at.result.ok t.if1.false) _ _ _ _ _ _ _ _ _ (omega (arith, f.few)) (omega (arith, f.few))
-    e.floats.ensures m.map_at.ensures z.warp-three-inverse-map.ensures u.unpacked.ensures
+    ∙ warp_told s.before.before.args.words.now f (not-false s.sides_at.result.ok t.if1.false) _ _ _ _ _ _ _ _ _ (omega (arith, f.few)) (omega (arith, f.few))
+    e.floats.ensures m.map_at.ensures z.warp_three_inverse_map.ensures u.unpacked.ensures
 
 pub warped-spec : {M : Type 1} → statement M
 warped-spec =

@@ -20,13 +20,13 @@ no-shape-requires : tie.Need-no-shape-requires
 no-shape-requires c κs = search rules
 
 returns : tie.Need-returns
-returns c = subst (Fitting _ _) (sym c.no-shape.ensures) (unfit _ _ (no_shape_left _ _ (no_side _ _ c.before.before.before.side.ensures.0 c.before.if1.true)))
+returns c = subst (Fitting _ _) (sym c.no_shape.ensures) (unfit _ _ (no_shape_left _ _ (no_side _ _ c.before.before.before.side.ensures.0 c.before.if1.true)))
 
 no-shape-requires-2 : tie.Need-no-shape-requires-2
 no-shape-requires-2 c κs = search rules
 
 returns-2 : tie.Need-returns-2
-returns-2 c = subst (Fitting _ _) (sym c.no-shape2.ensures) (unfit _ _ (no_shape_right _ _ (no_side _ _ c.before.before.before.side2.ensures.0 c.before.if2.true)))
+returns-2 c = subst (Fitting _ _) (sym c.no_shape2.ensures) (unfit _ _ (no_shape_right _ _ (no_side _ _ c.before.before.before.side2.ensures.0 c.before.if2.true)))
 
 area-requires : tie.Need-area-requires
 area-requires c κs = search rules
@@ -38,7 +38,7 @@ returns-3 : tie.Need-returns-3
 returns-3 c =
     let w = some_side _ _ c.before.before.before.before.before.before.side.ensures.0 c.before.before.before.before.if1.false in
     let h = some_side _ _ c.before.before.before.before.before.side2.ensures.0 c.before.before.before.if2.false in
-    subst (Fitting _ _) (sym c.no-shape3.ensures) (unfit _ _ (no_shape_large _ _ _ (c.before.before.area.ensures ∙ ap₂ (λ (a b : ℕ). a * b) w.1 h.1) c.before.if3.true))
+    subst (Fitting _ _) (sym c.no_shape3.ensures) (unfit _ _ (no_shape_large _ _ _ (c.before.before.area.ensures ∙ ap₂ (λ (a b : ℕ). a * b) w.1 h.1) c.before.if3.true))
 
 returns-4 : tie.Need-returns-4
 returns-4 c =

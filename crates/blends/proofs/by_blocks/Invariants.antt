@@ -1,0 +1,14 @@
+-- `blends::by_blocks` meets its contract: a turn reads some more pixels of the stretch, in one of two ways. Assumes nothing.
+use Prim.Native.Nat.{ℕ, ◌+◌, ◌-◌, ◌*◌, ◌≤◌, ◌<◌}
+use mathlib.Core.Path.{◌≡◌, sym, ◌∙◌}
+use native.Mathlib.Omega.{arith}
+use borrow.Author.Rules.{rules}
+use lib.ListN.{get_or}
+use Rattle.blends.proofs.Stretch.{StretchHeld, stretch_start, stretch_end, taken, taken_block}
+use Rattle.blends.proofs.by_blocks.Given as goal
+
+abbrev pub invariant-loop-x : goal.invariant-loop-x
+invariant-loop-x l = StretchHeld l.n (l.at + l.from) l.from l.to (taken l.n l.w l.at l.from l.to l.spots l.across l.down l.initial.part) l.initial.part l.part l.x
+
+abbrev pub decreases-loop-x : goal.decreases-loop-x
+decreases-loop-x l = l.to - l.x

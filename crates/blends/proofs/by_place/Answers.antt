@@ -1,0 +1,36 @@
+-- `blends::by_place` meets its contract. Assumes nothing.
+use Prim.Native.Nat.{◌+◌, ◌-◌}
+use native.Mathlib.Omega.{arith}
+use borrow.Author.Rules.{rules}
+use lib.ListN.{length-set}
+use Rattle.blends.proofs.Stretch.{StretchHeld, stretch_start, stretch_end, taken, taken_turn}
+use Rattle.blends.proofs.by_place.Goals as goal
+
+pub loop-x-init : goal.loop-x-init
+loop-x-init c =
+    let a = c.args in
+    stretch_start a.n (a.at + a.from) a.from a.to _ a.part.now (omega arith)
+
+pub mix-p-requires : goal.mix-p-requires
+mix-p-requires c =
+    let l = c.loop-x in
+    (omega (arith, l.invariant.part_length), omega (arith, c.wide.ensures, c.requires.6 l.x l.invariant.low (omega arith)))
+
+pub bounds-part-second : goal.bounds-part-second
+bounds-part-second c = simp length-set (omega arith)
+
+pub bounds-part-third : goal.bounds-part-third
+bounds-part-third c = simp length-set (omega arith)
+
+pub loop-x-preserved : goal.loop-x-preserved
+loop-x-preserved c =
+    let l = c.loop-x in
+    let a = c.args in
+    let w = c.wide in
+    taken_turn a.n a.w a.at a.from a.to a.spots.now a.across.now a.down.now a.part.now (omega arith) l.part l.x w.result c.mix-p.result (omega arith) l.invariant w.ensures c.mix-p.ensures
+
+pub returns : goal.returns
+returns c =
+    let l = c.loop-x in
+    let a = c.args in
+    stretch_end a.n (a.at + a.from) a.from a.to _ a.part.now (omega arith) l.part l.x (omega (arith, l.invariant.bound)) l.invariant

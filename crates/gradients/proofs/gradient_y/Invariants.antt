@@ -1,0 +1,18 @@
+-- `gradients::gradient_y` meets its contract. The loop's invariant: the first y rows stand in the third image, and nothing else has changed. Assumes nothing.
+use Prim.Native.Nat.{◌+◌, ◌-◌, ◌*◌, ◌≤◌}
+use mathlib.Core.Path.{◌≡◌, refl}
+use native.Mathlib.Omega.{arith}
+use borrow.Author.Rules.{rules}
+use lib.ListN.{length}
+use Rattle.lists.specs.Lists.{grid, put, image, set_image}
+use Rattle.lists.proofs.Fill.{rows_none, row_in}
+use Rattle.gradients.specs.Gradients.{before_of, after_of, gradient_y}
+use Rattle.lists.proofs.Every.{sides_fit}
+use Rattle.gradients.proofs.Rows.{half_of, row_more}
+use Rattle.gradients.proofs.gradient_y.Given as goal
+
+abbrev pub invariant-loop-y : goal.invariant-loop-y
+invariant-loop-y l = (l.y ≤ l.h) × (length l.part ≡ length l.initial.part) × (l.part ≡ put l.initial.part (2 * l.n) (grid l.w l.y (λ x y. half_of (image l.n 0 l.initial.part) (after_of l.h y * l.w + x) (before_of y * l.w + x))))
+
+abbrev pub decreases-loop-y : goal.decreases-loop-y
+decreases-loop-y l = l.h - l.y

@@ -1,0 +1,20 @@
+-- `kernel::weights` meets its contract. The loop's invariant: the first i weights are stored and summed. The measure is what is left of them. Assumes nothing.
+use mathlib.Core.Path.{◌≡◌, refl, sym, ap, ◌∙◌}
+use Prim.Native.Nat.{◌-◌, ◌≤◌}
+use native.Mathlib.Omega.{arith}
+use borrow.Author.Rules.{rules}
+use lib.ListN.{length, length-set}
+use lib.Ieee.{Float}
+use Rattle.lists.specs.Lists.{tab, put}
+use Rattle.lists.proofs.Fill.{fill_none, front_more}
+use Rattle.floats.specs.F32.{◌⊕◌}
+use Rattle.floats.specs.Sums.{sum_to}
+use Rattle.floats.proofs.Sums.{to_none, to_more}
+use Rattle.kernel.specs.Kernel.{weight_of}
+use Rattle.kernel.proofs.weights.Given as goal
+
+abbrev pub invariant-loop-i : goal.invariant-loop-i
+invariant-loop-i l = (l.i ≤ l.ksize) × (length l.k ≡ length l.initial.k) × (l.sum ≡ sum_to (weight_of l.ksize) l.i) × (l.k ≡ put l.initial.k 0 (tab l.i (weight_of l.ksize)))
+
+abbrev pub decreases-loop-i : goal.decreases-loop-i
+decreases-loop-i l = l.ksize - l.i

@@ -1,0 +1,8 @@
+-- `resize::gray` reads the byte inside the frame. Assumes nothing.
+use Rattle.resize.specs.Resize.{byte_of}
+use borrow.Author.Rules.{rules}
+use Rattle.resize.proofs.gray.Goals as goal
+
+pub returns : goal.returns
+unfolding byte_of
+returns c = c.byte_to_f32.ensures

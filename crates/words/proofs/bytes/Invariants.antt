@@ -1,0 +1,18 @@
+-- `words::bytes` meets its contract. The loop's invariant: the first i bytes are those of the words. The measure is what is left. Assumes nothing.
+use mathlib.Core.Path.{◌≡◌, refl, sym, ap, ◌∙◌}
+use Prim.Native.Nat.{ℕ, ◌+◌, ◌%◌, ◌-◌, ◌≤◌}
+use native.Mathlib.Omega.{arith}
+use lib.ListN.{length, take, length-set}
+use lib.Seq.{take-length}
+use borrow.Author.Rules.{rules}
+use Rattle.lists.specs.Lists.{tab}
+use Rattle.lists.proofs.Grow.{tab_zero}
+use Rattle.lists.proofs.Fill.{front_turn}
+use Rattle.words.specs.Words.{stored_at, bytes_at}
+use Rattle.words.proofs.bytes.Given as goal
+
+abbrev pub invariant-loop-i : goal.invariant-loop-i
+invariant-loop-i l = (l.i ≤ length l.out) × (length l.out ≡ length l.initial.out) × (take l.i l.out ≡ tab l.i (λ k. stored_at l.words (l.from + k) % 256))
+
+abbrev pub decreases-loop-i : goal.decreases-loop-i
+decreases-loop-i l = length l.initial.out - l.i

@@ -1,0 +1,6 @@
+-- `words::same` meets its contract. Assumes nothing.
+use borrow.Author.Rules.{rules}
+use Rattle.words.proofs.same.Goals as goal
+
+pub returns : goal.returns
+returns c = rw (c.to_bits.ensures, c.low.ensures)
