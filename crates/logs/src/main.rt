@@ -1,11 +1,6 @@
 // Runs stored streams of records, one file after another, through what pinlog runs, and prints each one's name and log. The streams and
 // what is to be printed come from a model (tools/vectors/streams.rs).
 #![tactic(auto)]
-<<<<<<< HEAD
-=======
-
-use libc::STDOUT_FILENO;
->>>>>>> 689917f45c2a252846feb20b5c22fe0ecc8a1d39
 
 use std::fs::File;
 use std::io::Print;

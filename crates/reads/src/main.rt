@@ -1,11 +1,6 @@
 // Prints what `files::fill` makes of a directory, which opens but can't be read, and of stored files, with 16 bytes lent: the name, whether
 // every read went well, how many bytes are held, and those bytes. What is to be printed comes from tools/pictures.
 #![tactic(auto)]
-<<<<<<< HEAD
-=======
-
-use libc::STDOUT_FILENO;
->>>>>>> 689917f45c2a252846feb20b5c22fe0ecc8a1d39
 
 use std::fs::File;
 use std::io::Print;

@@ -4,11 +4,7 @@
 // they test (tools/vectors says how each list is made).
 #![tactic(auto)]
 
-<<<<<<< HEAD
 use std::io::Read;
-=======
-use libc::{STDIN_FILENO, STDOUT_FILENO};
->>>>>>> 689917f45c2a252846feb20b5c22fe0ecc8a1d39
 use words::Line;
 
 fn agrees(kind: u64, words: &[u64]) -> bool {
