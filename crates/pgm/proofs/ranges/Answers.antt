@@ -1,0 +1,23 @@
+-- `pgm::ranges` asks the sides, then the largest gray. Assumes nothing.
+use mathlib.Core.Path.{sym, ◌∙◌}
+use borrow.Author.Rules.{rules}
+use borrow.Author.Tests.{not-true, not-false}
+use Rattle.lists.proofs.Cases.{pick_true, pick_false}
+use Rattle.pgm.specs.Pgm.{ranges_of}
+use Rattle.pgm.proofs.ranges.Goals as goal
+
+pub returns-then-not-is_inside : goal.returns-then-not-is_inside
+unfolding ranges_of
+returns-then-not-is_inside c = sym (pick_false _ _ _ (sym c.is_inside.ensures ∙ not-true _ c.if-not-is_inside.taken))
+
+pub returns-then-not-is_inside-2 : goal.returns-then-not-is_inside-2
+unfolding ranges_of
+returns-then-not-is_inside-2 c = sym (pick_true _ _ _ (sym c.is_inside.ensures ∙ not-false _ c.if-not-is_inside.left) ∙ pick_false _ _ _ (sym c.is_inside-2.ensures ∙ not-true _ c.if-not-is_inside-2.taken))
+
+pub returns-then-not-is_inside-3 : goal.returns-then-not-is_inside-3
+unfolding ranges_of
+returns-then-not-is_inside-3 c = sym (pick_true _ _ _ (sym c.is_inside.ensures ∙ not-false _ c.if-not-is_inside.left) ∙ pick_true _ _ _ (sym c.is_inside-2.ensures ∙ not-false _ c.if-not-is_inside-2.left) ∙ pick_false _ _ _ (sym c.is_inside-3.ensures ∙ not-true _ c.if-not-is_inside-3.taken))
+
+pub returns : goal.returns
+unfolding ranges_of
+returns c = c.start.ensures ∙ sym (pick_true _ _ _ (sym c.is_inside.ensures ∙ not-false _ c.if-not-is_inside.left) ∙ pick_true _ _ _ (sym c.is_inside-2.ensures ∙ not-false _ c.if-not-is_inside-2.left) ∙ pick_true _ _ _ (sym c.is_inside-3.ensures ∙ not-false _ c.if-not-is_inside-3.left))

@@ -1,0 +1,23 @@
+-- `pgm::skip` goes byte after byte. Assumes nothing.
+use Prim.Native.Nat.{◌+◌, ◌-◌}
+use mathlib.Core.Path.{refl, sym, ◌∙◌}
+use mathlib.Core.Bool.{false}
+use native.Mathlib.Omega.{arith}
+use borrow.Author.Rules.{rules}
+use borrow.Author.Tests.{not-true, not-false}
+use lib.ListN.{length, drop}
+use Rattle.pgm.specs.Pgm.{gap_of}
+use Rattle.pgm.proofs.Gap.{Skipped, gap_end, gap_stop, gap_more}
+use Rattle.pgm.proofs.skip.Goals as goal
+
+pub loop-i-init : goal.loop-i-init
+loop-i-init c = record { to = refl }
+
+pub returns-then-not-is_between : goal.returns-then-not-is_between
+returns-then-not-is_between c = gap_stop c.loop-i.invariant (omega arith) (sym c.is_between.ensures ∙ c.if-not-is_between.true)
+
+pub loop-i-preserved : goal.loop-i-preserved
+loop-i-preserved c = gap_more c.loop-i.invariant (omega arith) (sym c.is_between.ensures ∙ c.if-not-is_between.false) c.is_open-in_comment.ensures
+
+pub returns : goal.returns
+returns c = gap_end c.loop-i.invariant (omega arith)

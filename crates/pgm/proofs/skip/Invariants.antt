@@ -1,0 +1,17 @@
+-- `pgm::skip` goes byte after byte. Assumes nothing.
+use Prim.Native.Nat.{◌+◌, ◌-◌}
+use mathlib.Core.Path.{refl, sym, ◌∙◌}
+use mathlib.Core.Bool.{false}
+use native.Mathlib.Omega.{arith}
+use borrow.Author.Rules.{rules}
+use borrow.Author.Tests.{not-true, not-false}
+use lib.ListN.{length, drop}
+use Rattle.pgm.specs.Pgm.{gap_of}
+use Rattle.pgm.proofs.Gap.{Skipped, gap_end, gap_stop, gap_more}
+use Rattle.pgm.proofs.skip.Given as goal
+
+abbrev pub invariant-loop-i : goal.invariant-loop-i
+invariant-loop-i l = Skipped l.s l.in_comment l.i (l.at + gap_of false (drop l.at l.s))
+
+abbrev pub decreases-loop-i : goal.decreases-loop-i
+decreases-loop-i l = length l.s - l.i
