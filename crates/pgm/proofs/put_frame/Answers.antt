@@ -24,4 +24,4 @@ returns-in-Good c =
     let g = c.args in
     let e = sym c.read_header-found.ensures ∙ c.in-Good.is in
     let p = c.put_read in
-    record { value = p.ensures.0 ∙ sym (ap (made_of g.s.now (length g.out.now)) e); out_after = p.ensures.1 ∙ sym (ap (λ (z : Header). put g.out.now 0 (record_of g.s.now (length g.out.now) z)) e) }
+    record { value = p.ensures.value ∙ sym (ap (made_of g.s.now (length g.out.now)) e); out_after = p.ensures.out_after ∙ sym (ap (λ (z : Header). put g.out.now 0 (record_of g.s.now (length g.out.now) z)) e) }
