@@ -2,7 +2,6 @@
 use Prim.Native.Nat.{◌+◌, ◌-◌}
 use mathlib.Core.Path.{◌≡◌, sym, ap, ◌∙◌}
 use native.Mathlib.Omega.{arith}
-use borrow.Author.Rules.{rules}
 use borrow.Author.Tests.{lt-ltb, le-ltb}
 use Rattle.lists.proofs.Cases.{pick_true, pick_false}
 use Rattle.scan.specs.declared.Digits.{Digits}
@@ -12,7 +11,7 @@ use Rattle.options.proofs.Within.{next_least, next_most}
 use Rattle.options.proofs.behind.Goals as goal
 
 pub returns-then-d-first : goal.returns-then-d-first
-unfolding behind_of found
+unfolding behind_of
 returns-then-d-first c =
     let found : Digits =
     digits_at c.args.s.now c.args.at c.args.before 16777217 in
@@ -21,7 +20,6 @@ returns-then-d-first c =
     sym (pick_false _ _ _ (le-ltb (c.args.first + 1) found.next (omega (arith, ends))))
 
 pub overflow_sub-d : goal.overflow_sub-d
-unfolding found
 overflow_sub-d c =
     let found : Digits =
     digits_at c.args.s.now c.args.at c.args.before 16777217 in
@@ -31,7 +29,6 @@ overflow_sub-d c =
     omega (arith, ends, next_least a.s.now a.at a.before 16777217)
 
 pub tail-requires : goal.tail-requires
-unfolding found
 tail-requires c =
     let found : Digits =
     digits_at c.args.s.now c.args.at c.args.before 16777217 in
@@ -41,7 +38,7 @@ tail-requires c =
     (omega (arith, ends, next_most a.s.now a.at a.before 16777217 c.requires.1), omega arith)
 
 pub returns : goal.returns
-unfolding behind_of found
+unfolding behind_of
 returns c =
     let found : Digits =
     digits_at c.args.s.now c.args.at c.args.before 16777217 in

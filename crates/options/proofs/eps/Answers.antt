@@ -4,7 +4,6 @@ use mathlib.Core.Path.{◌≡◌, sym, ap, ◌∙◌}
 use mathlib.Core.Bool.{Bool, true, false}
 use mathlib.Core.List.{[], ◌∷◌}
 use native.Mathlib.Omega.{arith}
-use borrow.Author.Rules.{rules}
 use borrow.Author.Tests.{lt-ltb, le-ltb}
 use lib.ListN.{length, drop, length-drop}
 use Rattle.lists.proofs.Cases.{pick_true, pick_false}
@@ -17,7 +16,6 @@ use Rattle.options.proofs.Within.{next_least, next_most}
 use Rattle.options.proofs.eps.Goals as goal
 
 pub stands-requires : goal.stands-requires
-unfolding found
 stands-requires c =
     let found : Digits =
     digits_at c.args.s.now c.args.at 0 16777217 in
@@ -28,7 +26,6 @@ stands-requires c =
     within
 
 pub overflow_add-d : goal.overflow_add-d
-unfolding found
 overflow_add-d c =
     let found : Digits =
     digits_at c.args.s.now c.args.at 0 16777217 in
@@ -39,7 +36,6 @@ overflow_add-d c =
     omega (arith, within)
 
 pub behind-requires : goal.behind-requires
-unfolding found
 behind-requires c =
     let found : Digits =
     digits_at c.args.s.now c.args.at 0 16777217 in
@@ -55,7 +51,7 @@ behind-requires c =
     (omega (arith, ends, next_least s a 0 16777217), omega (arith, length-drop n s, within), omega (arith, value_held s a 0 16777217))
 
 pub returns-then-stands : goal.returns-then-stands
-unfolding eps_of found
+unfolding eps_of
 returns-then-stands c =
     let found : Digits =
     digits_at c.args.s.now c.args.at 0 16777217 in
@@ -69,7 +65,7 @@ returns-then-stands c =
     ∙ sym (pick_true _ _ _ (dot true c.if-stands.true))
 
 pub returns-then-d-at : goal.returns-then-d-at
-unfolding eps_of found
+unfolding eps_of
 returns-then-d-at c =
     let found : Digits =
     digits_at c.args.s.now c.args.at 0 16777217 in
@@ -82,7 +78,6 @@ returns-then-d-at c =
     ∙ pick_false _ _ _ (le-ltb c.args.at found.next (omega (arith, ends))))
 
 pub tail-requires : goal.tail-requires
-unfolding found
 tail-requires c =
     let found : Digits =
     digits_at c.args.s.now c.args.at 0 16777217 in
@@ -93,7 +88,7 @@ tail-requires c =
     (within, omega arith)
 
 pub returns : goal.returns
-unfolding eps_of found
+unfolding eps_of
 returns c =
     let found : Digits =
     digits_at c.args.s.now c.args.at 0 16777217 in

@@ -2,21 +2,17 @@
 use Prim.Native.Nat.{ℕ}
 use mathlib.Core.Path.{◌≡◌, sym, ap, ◌∙◌}
 use mathlib.Core.Bool.{Bool, true, false, ◌||◌}
-use mathlib.Core.Logic.{◌⊎◌, ⊎_elim}
 use mathlib.Core.List.{List, [], ◌∷◌}
-use borrow.Author.Rules.{rules}
 use borrow.Author.Tests.{eq-eqb, ne_eqb}
 use lib.ListN.{drop}
 use Rattle.lists.proofs.Cases.{pick_true, pick_false}
 use Rattle.options.specs.Words.{begins, tail_of}
 use Rattle.options.proofs.tail.Goals as goal
+use Rattle.options.proofs.tail.Goals.{then-stands-via-then-stands, then-stands-via-else-stands+then-stands-2}
 
 -- by the first of two tests
 first : {x : Bool} (y t : Bool) → x ≡ t → (x || y) ≡ (t || y)
 first y t e = ap (λ (z : Bool). z || y) e
-
-one : {P Q : Type 0} (x y : Bool) → (P → x ≡ true) → (Q → (x || y) ≡ true) → P ⊎ Q → (x || y) ≡ true
-one x y f g w = ⊎_elim (λ p. first y true (f p)) g w
 
 pub returns-then-at-s : goal.returns-then-at-s
 unfolding tail_of
@@ -25,16 +21,16 @@ returns-then-at-s c = c.ratio.ensures ∙ sym (pick_true _ _ _ (eq-eqb _ _ c.if-
 pub returns-then-stands : goal.returns-then-stands
 unfolding tail_of
 returns-then-stands c =
-    let stood : List ℕ → Bool =
-    λ p. begins (drop c.args.at c.args.s.now) p in
+    let stood : List ℕ → Bool = λ p. begins (drop c.args.at c.args.s.now) p in
     let either_one : (stood (101 ∷ 45 ∷ []) || stood (69 ∷ 45 ∷ [])) ≡ true =
-    let e = sym c.stands.ensures in
-    one _ _ (λ w. e ∙ w.taken) (λ w. first _ false (e ∙ w.0.left) ∙ sym w.2.ensures ∙ w.3.taken) c.then-stands.branch in
-    c.exponent.ensures
-    ∙ sym (pick_false _ _ _ (ne_eqb _ _ c.if-at-s.false) ∙ pick_true _ _ _ either_one)
+    elim c.then-stands.branch [
+      | then-stands-via-then-stands w ↦ first (stood (69 ∷ 45 ∷ [])) true (sym c.stands.ensures ∙ w.if-stands.true)
+      | then-stands-via-else-stands+then-stands-2 w ↦ first (stood (69 ∷ 45 ∷ [])) false (sym c.stands.ensures ∙ w.if-stands.false) ∙ sym w.stands-else-stands.ensures ∙ w.if-stands-2.true
+    ] in
+    c.exponent.ensures ∙ sym (pick_false _ _ _ (ne_eqb _ _ c.if-at-s.false) ∙ pick_true _ _ _ either_one)
 
 pub returns : goal.returns
 unfolding tail_of
 returns c =
     sym (pick_false _ _ _ (ne_eqb _ _ c.if-at-s.false)
-    ∙ pick_false _ _ _ (first _ false (sym c.stands.ensures ∙ c.then-stands.false) ∙ sym c.stands-else-stands.ensures ∙ c.if-stands-2.false))
+    ∙ pick_false _ _ _ (first _ false (sym c.stands.ensures ∙ c.if-stands.false) ∙ sym c.stands-else-stands.ensures ∙ c.if-stands-2.false))
