@@ -21,11 +21,9 @@ use files::Filled;
 use options::{Options, Taken};
 use pgm::Made;
 use std::env::FillError;
-use std::fs::File;
-use std::io;
 use std::io::{Error, ErrorKind, Print};
 use std::rt::Env;
-use std::str;
+use std::{fs, io, str};
 
 // Between two words.
 #[derive(Clone, Copy)]
@@ -126,7 +124,11 @@ fn fail(rt: &HostRuntime, what: &[u8], why: Error) {
 fn explain(rt: &HostRuntime, path: &[u8], k: u8) {
     match k {
         1 => say(rt, path, b"no PGM picture (P2 or P5)"),
-        2 => say(rt, path, b"what stands before the pixels is cut short or wrong"),
+        2 => say(
+            rt,
+            path,
+            b"what stands before the pixels is cut short or wrong",
+        ),
         3 => say(rt, path, b"a side is 0 or above 65535"),
         4 => say(rt, path, b"the largest gray is 0 or above 255"),
         5 => say(rt, path, b"more than 65526 pixels"),
@@ -199,7 +201,7 @@ fn put_picture(run: Run, file: &[u8], out: &mut [u8]) -> Made
 // Writes the records of a picture. Nothing else is written to standard output.
 fn write(rt: &HostRuntime, run: Run, bytes: &[u8]) -> Run
     requires { Shown run bytes.now }
-    ensures { (is◌out : Bool) × (result ≡ written_of run is◌out) }
+    ensures { (is_out : Bool) × (result ≡ written_of run is_out) }
 {
     match rt.stdout().write_all(bytes) {
         Ok(()) => written(run, true),
@@ -213,7 +215,7 @@ fn write(rt: &HostRuntime, run: Run, bytes: &[u8]) -> Run
 // What a file's bytes are as a picture: written, or refused.
 fn show(rt: &HostRuntime, run: Run, path: &[u8], file: &[u8], out: &mut [u8]) -> Run
     requires { length out.old ≡ 65556 }
-    ensures { (is◌out : Bool) × (result ≡ file_run run is◌out (File.Read file.now)) }
+    ensures { (is_out : Bool) × (result ≡ file_run run is_out (File.Read file.now)) }
 {
     let made = put_picture(run, file, out);
     match made {
@@ -226,16 +228,9 @@ fn show(rt: &HostRuntime, run: Run, path: &[u8], file: &[u8], out: &mut [u8]) ->
 }
 
 // By how the file was read into the buffer.
-fn filled(
-    rt: &HostRuntime,
-    run: Run,
-    path: &[u8],
-    file: Filled,
-    buf: &[u8],
-    out: &mut [u8],
-) -> Run
+fn filled(rt: &HostRuntime, run: Run, path: &[u8], file: Filled, buf: &[u8], out: &mut [u8]) -> Run
     requires { (length out.old ≡ 65556) × (file.count ≤ length buf.now) }
-    ensures { (is◌out : Bool) × (result ≡ file_run run is◌out (file_of file buf.now)) }
+    ensures { (is_out : Bool) × (result ≡ file_run run is_out (file_of file buf.now)) }
 {
     if !file.is_read {
         say(rt, path, b"a read of it failed");
@@ -254,7 +249,7 @@ fn opened(
     rt: &HostRuntime,
     run: Run,
     path: &[u8],
-    input: io::Result<File>,
+    input: io::Result<fs::File>,
     buf: &mut [u8],
     out: &mut [u8],
 ) -> Run
@@ -274,9 +269,9 @@ fn opened(
 }
 
 // Opens the file of that name. std takes a name as text, so one that is not UTF-8 can't be opened.
-fn open(rt: &HostRuntime, path: &[u8]) -> io::Result<File> {
+fn open(rt: &HostRuntime, path: &[u8]) -> io::Result<fs::File> {
     match str::from_utf8(path) {
-        Ok(name) => File::open(rt, name),
+        Ok(name) => fs::File::open(rt, name),
         Err(_) => Err(Error::new(ErrorKind::InvalidInput, "the name is not UTF-8")),
     }
 }
