@@ -1,6 +1,6 @@
 -- A frame record: its head, and then its pixels. One that is made is whole, and `next_of`, by which the program `pinlog` reads, finds the picture in it. Assumes
 -- nothing.
-use Prim.Native.Nat.{ℕ, zero, suc, zero-le, ◌+◌, ◌*◌, ◌≤◌}
+use Prim.Native.Nat.{ℕ, zero, suc, zero-le, ◌+◌, ◌*◌, ◌≤◌, ◌<◌}
 use mathlib.Core.Path.{◌≡◌, refl, sym, ap, ◌∙◌}
 use mathlib.Core.Bool.{Bool, true, false, true≢false}
 use mathlib.Core.List.{List, [], ◌∷◌, ◌++◌}
@@ -12,6 +12,7 @@ use Rattle.lists.specs.Lists.{put}
 use Rattle.lists.specs.Marked.{pick}
 use Rattle.lists.proofs.Cases.{pick_false, either}
 use Rattle.lists.proofs.Put.{put_put}
+use Rattle.records.specs.declared.Record.TheVariants.{Frame, Large}
 use Rattle.records.specs.Reading.{next_of}
 use Rattle.encode.specs.Bytes.{half_bytes, word_bytes, start_bytes, head_bytes}
 use Rattle.encode.proofs.Back.{frame_back, large_back}

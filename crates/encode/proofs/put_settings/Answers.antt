@@ -1,4 +1,5 @@
 -- `encode::put_settings` puts the start, then the four numbers. Assumes nothing.
+use borrow.Author.Rules.{rules}
 use native.Mathlib.Omega.{arith}
 use mathlib.Core.Path.{ap, ◌∙◌}
 use mathlib.Core.List.{◌++◌, append_assoc}

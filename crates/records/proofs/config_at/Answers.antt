@@ -1,4 +1,5 @@
 -- `records::config_at` reads each field at its place. Assumes nothing.
+use borrow.Author.Rules.{rules}
 use Rattle.records.specs.Reading.{config_at}
 use Rattle.records.proofs.config_at.Goals as goal
 

@@ -1,0 +1,20 @@
+-- `blur::blur_pass` meets its contract. The loop's invariant: the first y rows of the second image are the pass's. The measure is what is left of the rows. Assumes nothing.
+use mathlib.Core.Path.{◌≡◌, refl, ap, ◌∙◌}
+use mathlib.Core.List.{List}
+use Prim.Native.Nat.{◌+◌, ◌-◌, ◌*◌, ◌≤◌}
+use native.Mathlib.Nat.{one-mul}
+use native.Mathlib.Omega.{arith}
+use borrow.Author.Rules.{rules}
+use lib.ListN.{length, take}
+use lib.Ieee.{Float}
+use Rattle.lists.specs.Lists.{tab, grid, put, set_image}
+use Rattle.lists.proofs.Fill.{rows_none, rows_more, take_rows, row_in}
+use Rattle.lists.proofs.Images.{image_zero}
+use Rattle.blur.specs.Pass.{taps_of, sweep_of}
+use Rattle.blur.proofs.blur_pass.Given as goal
+
+abbrev pub invariant-loop-y : goal.invariant-loop-y
+invariant-loop-y l = (l.y ≤ l.h) × (length l.part ≡ length l.initial.part) × (l.part ≡ put l.initial.part (l.w * l.h) (grid l.w l.y (taps_of l.along l.ks l.ksize l.w l.h (take (l.w * l.h) l.initial.part) l.ksize)))
+
+abbrev pub decreases-loop-y : goal.decreases-loop-y
+decreases-loop-y l = l.h - l.y

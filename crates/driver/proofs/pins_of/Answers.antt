@@ -1,0 +1,69 @@
+-- `driver::pins_of` meets its contract. Assumes nothing.
+use Rattle.std.proofs.Common.{◌≡◌, ◌-◌, ◌≤◌, Bool, true, false, ◌&&◌, sym, ◌∙◌, arith, rules}
+use borrow.Author.Tests.{not-true, not-false}
+use Rattle.driver.specs.Pins.{}
+use Rattle.lists.specs.Premises.{is_side}
+use Rattle.driver.proofs.Sides.{side_bounds, no_frame, of_refusal, of_pose}
+use Rattle.driver.proofs.pins_of.Goals as goal
+
+first_fails : (a b : Bool) → a ≡ false → (a && b) ≡ false
+first_fails a b p = rw p
+
+second_fails : (a b : Bool) → a ≡ true → b ≡ false → (a && b) ≡ false
+second_fails a b p q = rw (p, q)
+
+pub returns-then-not-is_side : goal.returns-then-not-is_side
+returns-then-not-is_side c = c.still.ensures ∙ sym (no_frame c.args.answer _ _ (first_fails _ _ (sym c.is_side.ensures ∙ c.if-not-is_side.true)))
+
+pub returns-then-not-is_side-2 : goal.returns-then-not-is_side-2
+returns-then-not-is_side-2 c =
+    let wide : is_side c.args.w ≡ true =
+    sym c.is_side.ensures ∙ c.if-not-is_side.false in
+    c.still-then-not-is_side-2.ensures ∙ sym (no_frame c.args.answer _ _ (second_fails _ _ wide (sym c.is_side-2.ensures ∙ c.if-not-is_side-2.true)))
+
+pub overflow_sub-w : goal.overflow_sub-w
+overflow_sub-w c =
+    let wide : is_side c.args.w ≡ true =
+    sym c.is_side.ensures ∙ c.if-not-is_side.false in
+    let high : is_side c.args.h ≡ true =
+    sym c.is_side-2.ensures ∙ c.if-not-is_side-2.false in
+    let sides : let w = c.args.w in let h = c.args.h in (1 ≤ w) × (w - 1 ≤ 4095) × (1 ≤ h) × (h - 1 ≤ 4095) =
+    let w = side_bounds c.args.w wide in
+    let h = side_bounds c.args.h high in
+    (w.0, w.1, h.0, h.1) in
+    omega (arith, sides)
+
+pub overflow_sub-h : goal.overflow_sub-h
+overflow_sub-h c =
+    let wide : is_side c.args.w ≡ true =
+    sym c.is_side.ensures ∙ c.if-not-is_side.false in
+    let high : is_side c.args.h ≡ true =
+    sym c.is_side-2.ensures ∙ c.if-not-is_side-2.false in
+    let sides : let w = c.args.w in let h = c.args.h in (1 ≤ w) × (w - 1 ≤ 4095) × (1 ≤ h) × (h - 1 ≤ 4095) =
+    let w = side_bounds c.args.w wide in
+    let h = side_bounds c.args.h high in
+    (w.0, w.1, h.0, h.1) in
+    omega (arith, sides)
+
+pub posed_pins-requires : goal.posed_pins-requires
+posed_pins-requires c =
+    let wide : is_side c.args.w ≡ true =
+    sym c.is_side.ensures ∙ c.if-not-is_side.false in
+    let high : is_side c.args.h ≡ true =
+    sym c.is_side-2.ensures ∙ c.if-not-is_side-2.false in
+    let sides : let w = c.args.w in let h = c.args.h in (1 ≤ w) × (w - 1 ≤ 4095) × (1 ≤ h) × (h - 1 ≤ 4095) =
+    let w = side_bounds c.args.w wide in
+    let h = side_bounds c.args.h high in
+    (w.0, w.1, h.0, h.1) in
+    let s = sides in (omega (arith, s), omega (arith, s))
+
+pub returns-in-Refused : goal.returns-in-Refused
+returns-in-Refused c = c.still-in-Refused.ensures ∙ sym (of_refusal _ _ _ _ c.in-Refused.is)
+
+pub returns-in-Posed : goal.returns-in-Posed
+returns-in-Posed c =
+    let wide : is_side c.args.w ≡ true =
+    sym c.is_side.ensures ∙ c.if-not-is_side.false in
+    let high : is_side c.args.h ≡ true =
+    sym c.is_side-2.ensures ∙ c.if-not-is_side-2.false in
+    c.posed_pins.ensures ∙ sym (of_pose _ _ _ _ _ _ _ c.in-Posed.is wide high)
