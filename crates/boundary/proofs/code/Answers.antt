@@ -1,0 +1,8 @@
+-- `boundary::code` meets its contract. Assumes nothing.
+use borrow.Author.Rules.{rules}
+use Rattle.boundary.specs.Boundary.{code_of}
+use Rattle.boundary.proofs.code.Goals as goal
+
+pub returns : goal.returns
+unfolding code_of
+returns c = cc
