@@ -1,10 +1,10 @@
 -- `vectors::passes::agrees` meets its contract. Assumes nothing.
 use Prim.Native.Nat.{ℕ}
 use mathlib.Core.Path.{sym, ap, ◌∙◌}
+use native.Mathlib.Omega.{arith}
 use Rattle.lists.specs.Marked.{pick}
 use Rattle.vectors.specs.Passes.{pass_table, pass_agrees}
 use Rattle.vectors.proofs.Tests.{Absent, kind_none}
-use borrow.Author.Rules.{rules}
 use Rattle.vectors.proofs.passes.agrees.Goals as goal
 
 pub returns-in-23 : goal.returns-in-23
@@ -26,8 +26,6 @@ returns-in-28 c = c.rows_marked.ensures ∙ sym (ap (λ (k : ℕ). pass_agrees k
 pub returns-in_default : goal.returns-in_default
 unfolding pass_agrees
 returns-in_default c =
-    let r = c.in_default.rest in
-    let kind = c.args.kind in
     let table = pass_table c.args.words.now in
-    let none : Absent kind table = (r.0.0.0.1, (r.0.0.1, (r.0.1, (r.1, tt)))) in
-    kind_none kind table none
+    let none : Absent c.args.kind table = (λ e. omega (arith, e), (λ e. omega (arith, e), (λ e. omega (arith, e), (λ e. omega (arith, e), tt)))) in
+    kind_none c.args.kind table none
