@@ -1,8 +1,9 @@
 -- The image stages: what the code compares is what the definitions give. Assumes nothing.
-use Prim.Native.Nat.{ℕ, ◌+◌, ◌*◌, ◌≤◌}
+use Prim.Native.Nat.{ℕ, ◌+◌, ◌*◌, ◌%◌, ◌≤◌}
 use mathlib.Core.Bool.{true, false, ◌&&◌}
 use mathlib.Core.Path.{◌≡◌, refl, sym, ap, ap₂, ◌∙◌}
 use mathlib.Core.List.{List}
+use native.Mathlib.Nat.{mul_comm}
 use native.Mathlib.Omega.{arith}
 use borrow.Author.Tests.{lt-leb, eq-eqb, ne_eqb}
 use lib.Dec.{leb, eqb}
@@ -10,6 +11,7 @@ use lib.ListN.{length, take, drop}
 use lib.Ieee.{Float}
 use Rattle.lists.specs.Lists.{put, image, set_image}
 use Rattle.lists.proofs.Cases.{pick_false}
+use Rattle.lists.proofs.Grow.{length_grid}
 use Rattle.lists.proofs.Put.{length_put, take_put_front}
 use Rattle.lists.proofs.Images.{image_zero, image_set, length_set_image}
 use Rattle.settings.specs.Sides.{resized_of}
@@ -18,13 +20,14 @@ use Rattle.resize.specs.Resize.{resize_of}
 use Rattle.kernel.specs.Kernel.{kernel_of}
 use Rattle.kernel.proofs.Kernels.{length_kernel}
 use Rattle.blur.specs.Blur.{rows_of, columns_of, blur_of}
+use Rattle.gradients.specs.Gradients.{gradient_x, gradient_y}
 use Rattle.prepare.specs.Prepared.{prepared_of, prepared_in}
 use Rattle.prepare.proofs.Frames.{length_rows, length_columns}
 use Rattle.prepare.proofs.Work.{prepared_image}
 use Rattle.words.specs.Words.{stored_at, bytes_at, floats_at, floats_agree}
 use Rattle.resize.proofs.Sizes.{length_resize}
 use Rattle.lists.specs.Premises.{is_side}
-use Rattle.vectors.specs.Shapes.{is_shape, Filtered, Fitting}
+use Rattle.vectors.specs.Shapes.{is_shape, is_filter, Filtered, Fitting}
 use Rattle.vectors.specs.Images.{sides_agree, resize_agrees, kernel_agrees, blur_agrees, gradient_agrees, prepared_agrees}
 use Rattle.vectors.specs.declared.shapes.Shape.{Shape}
 use Rattle.vectors.proofs.Tests.{and_passed, both, first_failed, second_failed}

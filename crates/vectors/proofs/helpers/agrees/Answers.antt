@@ -7,13 +7,14 @@ use lib.Dec.{eqb}
 use lib.Ieee.{Float}
 use lib.Ieee.Scale.{finite}
 use mir.Val.{bool_byte}
-use native.Mathlib.Omega.{arith}
 use Rattle.lists.specs.Marked.{pick}
 use Rattle.numbers.specs.Numbers.{abs_of, floor_of, round_of}
 use Rattle.root.specs.Root.{sqrt_of}
 use Rattle.words.specs.Words.{stored_at, float_of, has_bits}
 use Rattle.vectors.specs.Helpers.{helper_table, helper_agrees}
 use Rattle.vectors.proofs.Tests.{Absent, kind_none}
+use borrow.Author.Rules.{rules}
+use native.Mathlib.Omega.{arith}
 use Rattle.vectors.proofs.helpers.agrees.Goals as goal
 
 -- a helper's answer to the first word, compared with the second
@@ -91,6 +92,7 @@ returns-in-10 c =
 pub returns-in_default : goal.returns-in_default
 unfolding helper_agrees
 returns-in_default c =
+    let kind = c.args.kind in
     let table = helper_table c.args.words.now in
-    let none : Absent c.args.kind table = (λ e. omega (arith, e), (λ e. omega (arith, e), (λ e. omega (arith, e), (λ e. omega (arith, e), (λ e. omega (arith, e), (λ e. omega (arith, e), (λ e. omega (arith, e), (λ e. omega (arith, e), (λ e. omega (arith, e), (λ e. omega (arith, e), tt)))))))))) in
-    kind_none c.args.kind table none
+    let none : Absent kind table = (omega arith, (omega arith, (omega arith, (omega arith, (omega arith, (omega arith, (omega arith, (omega arith, (omega arith, (omega arith, tt)))))))))) in
+    kind_none kind table none

@@ -1,10 +1,11 @@
 -- `vectors::images::agrees` meets its contract. Assumes nothing.
 use Prim.Native.Nat.{ℕ}
 use mathlib.Core.Path.{sym, ap, ◌∙◌}
-use native.Mathlib.Omega.{arith}
 use Rattle.lists.specs.Marked.{pick}
 use Rattle.vectors.specs.Images.{image_table, image_agrees}
 use Rattle.vectors.proofs.Tests.{Absent, kind_none}
+use borrow.Author.Rules.{rules}
+use native.Mathlib.Omega.{arith}
 use Rattle.vectors.proofs.images.agrees.Goals as goal
 
 pub returns-in-16 : goal.returns-in-16
@@ -38,6 +39,7 @@ returns-in-22 c = c.prepared.ensures ∙ sym (ap (λ (k : ℕ). image_agrees k c
 pub returns-in_default : goal.returns-in_default
 unfolding image_agrees
 returns-in_default c =
+    let kind = c.args.kind in
     let table = image_table c.args.words.now in
-    let none : Absent c.args.kind table = (λ e. omega (arith, e), (λ e. omega (arith, e), (λ e. omega (arith, e), (λ e. omega (arith, e), (λ e. omega (arith, e), (λ e. omega (arith, e), (λ e. omega (arith, e), tt))))))) in
-    kind_none c.args.kind table none
+    let none : Absent kind table = (omega arith, (omega arith, (omega arith, (omega arith, (omega arith, (omega arith, (omega arith, tt))))))) in
+    kind_none kind table none

@@ -5,6 +5,7 @@ use borrow.Author.Tests.{not-false}
 use Rattle.vectors.specs.Images.{blur_agrees}
 use Rattle.vectors.proofs.Sides.{unfit_of, fit_of, no_kernel}
 use Rattle.vectors.proofs.Stages.{blur_told}
+use borrow.Author.Rules.{rules}
 use Rattle.vectors.proofs.images.blurred.Goals as goal
 
 pub returns-then-not-s : goal.returns-then-not-s
@@ -17,7 +18,7 @@ returns-then-ksize-lt3 c = rw (fit_of c.sides_at-s.ensures c.if-not-s.false, no_
 
 pub gaussian_blur_separable-requires : goal.gaussian_blur_separable-requires
 gaussian_blur_separable-requires c =
-    let k = c.filter-ksize.ensures in let s = c.sides_at-s.ensures in (record { w_least = s.w_least; w_most = s.w_most; h_least = s.h_least; h_most = s.h_most }, omega arith, record { odd = k.odd (omega arith); most = k.most }, omega (arith, s.pixels, s.few, c.floats.auto))
+    let k = c.filter-ksize.ensures in let s = c.sides_at-s.ensures in (record { w_least = s.w_least; w_most = s.w_most; h_least = s.h_least; h_most = s.h_most }, omega arith, record { odd = k.odd (omega arith); most = k.most }, omega (arith, s.pixels, s.few, c.floats.auto.out))
 
 pub returns : goal.returns
 returns c =

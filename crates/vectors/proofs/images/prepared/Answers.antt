@@ -7,6 +7,7 @@ use Rattle.vectors.proofs.Sides.{unfit_of, fit_of, no_filter}
 use Rattle.vectors.proofs.Stages.{prepared_told}
 use lib.ListN.{length, take}
 use lib.Seq.{length-take-le}
+use borrow.Author.Rules.{rules}
 use Rattle.vectors.proofs.images.prepared.Goals as goal
 
 pub returns-then-not-s : goal.returns-then-not-s
@@ -24,13 +25,13 @@ returns-then-ksize-eq0 c = rw (fit_of c.sides_at-s.ensures c.if-not-s.false, fit
 pub slice_bounds-prepare-end-2 : goal.slice_bounds-prepare-end-2
 slice_bounds-prepare-end-2 c =
     let front : length (take c.sides_at-s.result.n c.bytes.new.out) ≡ c.sides_at-s.result.n =
-    length-take-le _ _ (omega (arith, c.sides_at-s.ensures.few, c.bytes.auto)) in
+    length-take-le _ _ (omega (arith, c.sides_at-s.ensures.few, c.bytes.auto.out)) in
     sym front
 
 pub prepare-requires : goal.prepare-requires
 prepare-requires c =
     let front : length (take c.sides_at-s.result.n c.bytes.new.out) ≡ c.sides_at-s.result.n =
-    length-take-le _ _ (omega (arith, c.sides_at-s.ensures.few, c.bytes.auto)) in
+    length-take-le _ _ (omega (arith, c.sides_at-s.ensures.few, c.bytes.auto.out)) in
     let s = c.sides_at-s.ensures in let t = c.sides_at-t.ensures in let k = c.filter-ksize.ensures in (record { w_least = s.w_least; w_most = s.w_most; h_least = s.h_least; h_most = s.h_most }, record { w_least = t.w_least; w_most = t.w_most; h_least = t.h_least; h_most = t.h_most }, front ∙ s.pixels, omega arith, omega (arith, t.pixels, t.few), record { odd = k.odd (omega (arith, c.if-ksize-eq0.false)); most = k.most })
 
 pub returns : goal.returns

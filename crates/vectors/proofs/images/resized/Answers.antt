@@ -7,6 +7,7 @@ use Rattle.vectors.proofs.Sides.{unfit_of, fit_of}
 use Rattle.vectors.proofs.Stages.{resize_told}
 use lib.ListN.{length, take}
 use lib.Seq.{length-take-le}
+use borrow.Author.Rules.{rules}
 use Rattle.vectors.proofs.images.resized.Goals as goal
 
 pub returns-then-not-s : goal.returns-then-not-s
@@ -20,13 +21,13 @@ returns-then-not-t c = rw (fit_of c.sides_at-s.ensures c.if-not-s.false, unfit_o
 pub slice_bounds-resize_bilinear-end : goal.slice_bounds-resize_bilinear-end
 slice_bounds-resize_bilinear-end c =
     let front : length (take c.sides_at-s.result.n c.bytes.new.out) ≡ c.sides_at-s.result.n =
-    length-take-le _ _ (omega (arith, c.sides_at-s.ensures.few, c.bytes.auto)) in
+    length-take-le _ _ (omega (arith, c.sides_at-s.ensures.few, c.bytes.auto.out)) in
     sym front
 
 pub resize_bilinear-requires : goal.resize_bilinear-requires
 resize_bilinear-requires c =
     let front : length (take c.sides_at-s.result.n c.bytes.new.out) ≡ c.sides_at-s.result.n =
-    length-take-le _ _ (omega (arith, c.sides_at-s.ensures.few, c.bytes.auto)) in
+    length-take-le _ _ (omega (arith, c.sides_at-s.ensures.few, c.bytes.auto.out)) in
     let s = c.sides_at-s.ensures in let t = c.sides_at-t.ensures in (record { w_least = s.w_least; w_most = s.w_most; h_least = s.h_least; h_most = s.h_most }, record { w_least = t.w_least; w_most = t.w_most; h_least = t.h_least; h_most = t.h_most }, omega (arith, front, s.pixels), omega (arith, t.pixels, t.few))
 
 pub returns : goal.returns

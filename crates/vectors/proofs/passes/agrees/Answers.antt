@@ -1,10 +1,11 @@
 -- `vectors::passes::agrees` meets its contract. Assumes nothing.
 use Prim.Native.Nat.{ℕ}
 use mathlib.Core.Path.{sym, ap, ◌∙◌}
-use native.Mathlib.Omega.{arith}
 use Rattle.lists.specs.Marked.{pick}
 use Rattle.vectors.specs.Passes.{pass_table, pass_agrees}
 use Rattle.vectors.proofs.Tests.{Absent, kind_none}
+use borrow.Author.Rules.{rules}
+use native.Mathlib.Omega.{arith}
 use Rattle.vectors.proofs.passes.agrees.Goals as goal
 
 pub returns-in-23 : goal.returns-in-23
@@ -26,6 +27,7 @@ returns-in-28 c = c.rows_marked.ensures ∙ sym (ap (λ (k : ℕ). pass_agrees k
 pub returns-in_default : goal.returns-in_default
 unfolding pass_agrees
 returns-in_default c =
+    let kind = c.args.kind in
     let table = pass_table c.args.words.now in
-    let none : Absent c.args.kind table = (λ e. omega (arith, e), (λ e. omega (arith, e), (λ e. omega (arith, e), (λ e. omega (arith, e), tt)))) in
-    kind_none c.args.kind table none
+    let none : Absent kind table = (omega arith, (omega arith, (omega arith, (omega arith, tt)))) in
+    kind_none kind table none

@@ -28,6 +28,6 @@ returns c =
     and_passed (le-leb _ 1024 few) (
     c.told_marked.ensures
     ∙ stats_told words c.word-w.result few _ _ _ c.bytes.ensures (search rules) c.packed.ensures
-    _ _ _ _ _ (search rules) c.floats.ensures c.floats-2.ensures c.centered_stats_in_place-r.ensures (omega (arith, few, c.centered_stats_in_place-r.auto.part, c.floats-2.auto, c.floats.auto))
+    _ _ _ _ _ (search rules) c.floats.ensures c.floats-2.ensures c.centered_stats_in_place-r.ensures (omega (arith, few, c.centered_stats_in_place-r.auto.part, c.floats-2.auto.out, c.floats.auto.out))
     )
     ∙ stats_agree_lem words c.word-w.result c.word-w.ensures
