@@ -1,7 +1,16 @@
 -- A file read into a buffer: what the buffer holds after each read, by what the read answered. Definitions only.
-use Rattle.std.specs.Prelude.{ℕ, ◌+◌, ◌-◌, ◌≡◌, true, false, ◌||◌, eqb, ℤ, pos, negsuc}
-use Rattle.libc.specs.Io.{Moved}
+use Rattle.std.specs.Prelude.{ℕ, ◌+◌, ◌-◌, ◌≤◌, ◌≡◌, true, false, ◌||◌, eqb, ℤ, pos, negsuc, Result, Ok, Err}
 use Rattle.files.specs.declared.Filled.{Filled}
+
+-- what a read that is handed room for n bytes may answer: -1, or how many bytes it moved, at most n
+abbrev pub Moved : ℕ → ℤ → Type 0
+Moved n (pos k) = k ≤ n
+Moved n (negsuc k) = k ≡ 0
+
+-- what a read answers, as a number: -1 where it failed
+abbrev pub answer_of : {E : Type 0} → Result ℕ E → ℤ
+answer_of (Ok k) = pos k
+answer_of (Err e) = negsuc 0
 
 -- before the first read, with a buffer of so many bytes: one of none is full
 abbrev pub empty_of : ℕ → Filled

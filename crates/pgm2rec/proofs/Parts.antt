@@ -1,6 +1,6 @@
 -- What is due and a frame, put one behind the other, and taken again. Assumes nothing.
-use Prim.Native.Nat.{ℕ, ◌+◌, ◌-◌, ◌≤◌}
-use mathlib.Core.Path.{◌≡◌, refl, sym, ap, ◌∙◌, subst}
+use Prim.Native.Nat.{ℕ, ◌+◌, ◌≤◌}
+use mathlib.Core.Path.{◌≡◌, refl, sym, ap, ◌∙◌}
 use mathlib.Core.Bool.{Bool, true, false, true≢false}
 use mathlib.Core.List.{List, [], ◌++◌}
 use native.Mathlib.Omega.{arith}
@@ -8,7 +8,6 @@ use native.Mathlib.Nat.{add-zero}
 use lib.ListN.{length, take, drop, length-append, length-drop}
 use lib.Seq.{length-take-le}
 use Rattle.lists.specs.Lists.{put}
-use Rattle.lists.specs.Marked.{pick}
 use Rattle.lists.proofs.Cases.{pick_true, pick_false, pick_both}
 use Rattle.lists.proofs.Put.{length_put, take_put_front, then_put}
 use Rattle.lists.proofs.Images.{part_put}
@@ -16,7 +15,7 @@ use Rattle.encode.specs.Bytes.{half_bytes, word_bytes, start_bytes, settings_byt
 use Rattle.pgm.specs.declared.Made.{Made}
 use Rattle.pgm.specs.declared.Made.TheVariants.{Size, Refused}
 use Rattle.pgm.specs.Pgm.{header_of}
-use Rattle.pgm.specs.Frame.{made_of, record_of, Framed}
+use Rattle.pgm.specs.Frame.{record_of}
 use Rattle.pgm.proofs.Record.{record_fits, Whole, whole}
 use Rattle.pgm2rec.specs.declared.Run.{Run}
 use Rattle.pgm2rec.specs.Course.{due_of, picture_of, frame_bytes, sized_of, Shown}

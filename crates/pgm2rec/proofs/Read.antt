@@ -1,15 +1,13 @@
 -- All that is written is read as settings and frames, whatever the system answers. Assumes nothing.
 use Prim.Native.Nat.{ℕ}
-use mathlib.Core.Path.{◌≡◌, refl, sym, ap, ◌∙◌, subst}
+use mathlib.Core.Path.{◌≡◌, refl}
 use mathlib.Core.Bool.{Bool, true, false}
 use mathlib.Core.List.{List, [], ◌∷◌, ◌++◌, append_assoc}
-use lib.IntN.{ℤ, pos, negsuc}
 use Rattle.lists.proofs.Cases.{pick_both}
 use Rattle.encode.specs.Bytes.{settings_bytes}
 use Rattle.encode.proofs.Back.{settings_back}
 use Rattle.pgm.specs.declared.Made.{Made}
 use Rattle.pgm.specs.declared.Made.TheVariants.{Size, Refused}
-use Rattle.pgm.specs.Pgm.{header_of}
 use Rattle.pgm.proofs.Record.{whole}
 use Rattle.options.specs.declared.Options.{Options}
 use Rattle.options.specs.declared.Taken.{Taken}
@@ -17,8 +15,8 @@ use Rattle.options.specs.declared.Taken.TheVariants.{Settings, Picture, Bad}
 use Rattle.options.specs.Words.{word_of, Ranged}
 use Rattle.options.proofs.Fields.{defaults_ranged, stays}
 use Rattle.pgm2rec.specs.declared.Run.{Run}
-use Rattle.pgm2rec.specs.Course.{fresh_run, onward_of, written_of, due_of, picture_of, frame_bytes, File, Read, Unread, made_run, made_bytes, file_run, file_bytes, opened_file, Answers, taken_run, taken_bytes, is_zero, WordTold, told_run, told_bytes}
-use Rattle.pgm2rec.specs.Whole.{walked_run, walked_bytes, SettingsRead, Records, all_read, settings_first, frame_first, AllRead}
+use Rattle.pgm2rec.specs.Course.{fresh_run, onward_of, written_of, due_of, picture_of, File, Read, Unread, made_run, made_bytes, file_run, file_bytes, opened_file, Answers, taken_run, taken_bytes, is_zero, WordTold, told_run, told_bytes}
+use Rattle.pgm2rec.specs.Whole.{walked_bytes, SettingsRead, Records, all_read, settings_first, frame_first, AllRead}
 
 -- ---- bytes
 settings_read : (o : Options) → Ranged o → SettingsRead o (settings_bytes o.eps o.passes o.filter o.edge)

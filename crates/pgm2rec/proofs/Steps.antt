@@ -4,12 +4,11 @@ use mathlib.Core.Path.{◌≡◌, refl, sym, ap, ◌∙◌}
 use mathlib.Core.Bool.{Bool, true, false, true≢false}
 use mathlib.Core.List.{List}
 use native.Mathlib.Omega.{arith}
-use borrow.Author.Tests.{ltb-true, lt-ltb, le-ltb, eq-eqb, ne_eqb}
-use lib.Dec.{ltb}
+use borrow.Author.Tests.{lt-ltb, le-ltb, eq-eqb, ne_eqb}
 use lib.IntN.{ℤ, pos, negsuc}
 use lib.ListN.{length, take}
-use lib.Signed.{lt_z}
 use mir.Syntax.{w32}
+use Rattle.std.specs.Prelude.{Result, Ok, Err}
 use mir.Val.{SFits, to_z, of_z}
 use mir.ValLaws.{to_z-of_z}
 use Rattle.lists.proofs.Cases.{pick_true, pick_false, pick_both}
@@ -20,7 +19,7 @@ use Rattle.options.specs.declared.Taken.{Taken}
 use Rattle.options.specs.declared.Taken.TheVariants.{Settings, Picture, Bad}
 use Rattle.options.specs.Words.{word_of}
 use Rattle.pgm2rec.specs.declared.Run.{Run}
-use Rattle.pgm2rec.specs.Course.{onward_of, stopped_of, written_of, File, Read, Unread, file_of, picture_of, sized_of, made_run, file_run, opened_file, Answers, taken_run, is_zero, heard_run, WordTold, told_run}
+use Rattle.pgm2rec.specs.Course.{onward_of, stopped_of, written_of, File, Read, Unread, file_of, picture_of, sized_of, made_run, file_run, opened_file, number_of, Answers, taken_run, is_zero, heard_run, WordTold, told_run}
 use Rattle.pgm2rec.proofs.Parts.{is_size}
 
 -- ---- a picture
@@ -62,23 +61,15 @@ module _ (f : Filled) (buf : List ℕ) where
   unfolding file_of
   all_read_lem e h n = pick_true _ _ _ e ∙ pick_true _ _ _ (lt-ltb f.count (length buf) (omega (arith, n)))
 
--- ---- an open, by what the machine reads back from the answer's bits
-opened_none : (z : ℤ) (f : File) → lt_z z (pos 0) ≡ true → opened_file z f ≡ Unread
-unfolding opened_file
-opened_none (pos k) f e = absurd (omega (arith, ltb-true k 0 e))
-opened_none (negsuc k) f e = refl
+-- ---- an open, by whether it failed
+module _ (run : Run) (out : Bool) (f : File) {F E : Type 0} {r : Result F E} where
+  pub run_closed : {e : E} → r ≡ Err e → file_run run out (opened_file (number_of r) f) ≡ stopped_of run
+  unfolding opened_file
+  run_closed q = rw q (run_unread run out)
 
-opened_some : (z : ℤ) (f : File) → lt_z z (pos 0) ≡ false → opened_file z f ≡ f
-unfolding opened_file
-opened_some (pos k) f e = refl
-opened_some (negsuc k) f e = absurd (true≢false e)
-
-module _ (run : Run) (out : Bool) (fd : ℤ) (fits : SFits w32 fd) (f : File) where
-  pub run_closed : lt_z (to_z w32 (of_z w32 fd)) (pos 0) ≡ true → file_run run out (opened_file fd f) ≡ stopped_of run
-  run_closed e = ap (file_run run out) (ap (λ (z : ℤ). opened_file z f) (sym (to_z-of_z w32 fd fits)) ∙ opened_none (to_z w32 (of_z w32 fd)) f e) ∙ run_unread run out
-
-  pub run_open : lt_z (to_z w32 (of_z w32 fd)) (pos 0) ≡ false → file_run run out (opened_file fd f) ≡ file_run run out f
-  run_open e = ap (file_run run out) (ap (λ (z : ℤ). opened_file z f) (sym (to_z-of_z w32 fd fits)) ∙ opened_some (to_z w32 (of_z w32 fd)) f e)
+  pub run_open : {x : F} → r ≡ Ok x → file_run run out (opened_file (number_of r) f) ≡ file_run run out f
+  unfolding opened_file
+  run_open q = rw q refl
 
 -- ---- a word
 zero_is : is_zero (pos 0) ≡ true

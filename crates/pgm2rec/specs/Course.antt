@@ -1,5 +1,5 @@
 -- What each word makes of a run, by what the system answers. Definitions only.
-use Rattle.std.specs.Prelude.{ℕ, ◌+◌, ◌≡◌, Bool, true, false, List, [], ◌++◌, ltb, eqb, ℤ, pos, negsuc, length, take}
+use Rattle.std.specs.Prelude.{ℕ, ◌+◌, ◌≡◌, Bool, true, false, List, [], ◌++◌, ltb, eqb, ℤ, pos, negsuc, length, take, Result, Ok, Err}
 use Rattle.lists.specs.Marked.{pick}
 use Rattle.settings.specs.Settings.{defaults_of}
 use Rattle.encode.specs.Bytes.{settings_bytes}
@@ -111,6 +111,11 @@ pub record WordTold : Type 0 where
 unfoldable pub opened_file : ℤ → File → File
 opened_file (pos k) f = f
 opened_file (negsuc k) f = Unread
+
+-- what an open answers, as a number: negative where it failed
+abbrev pub number_of : {F E : Type 0} → Result F E → ℤ
+number_of (Ok f) = pos 0
+number_of (Err e) = negsuc 0
 
 -- after an open that answered fd: the file is as it was read into a buffer of 65,536 bytes, which holds buf afterwards
 pub record Opened (run : Run) (fd : ℤ) (buf : List ℕ) (r : Run) : Type 0 where

@@ -14,13 +14,16 @@ ghost use Rattle.lists.specs.Lists.{put};
 ghost use Rattle.options.specs.Words.{word_of};
 ghost use Rattle.pgm.specs.Pgm.{header_of};
 ghost use Rattle.pgm.specs.Frame.{record_of};
-ghost use Rattle.pgm2rec.specs.Course.{fresh_run, onward_of, stopped_of, changed_of, written_of, due_of, picture_of, sized_of, File, file_of, file_run, Shown, Opened, Answers, opened_file, taken_run, heard_run, WordTold, told_run};
+ghost use Rattle.pgm2rec.specs.Course.{fresh_run, onward_of, stopped_of, changed_of, written_of, due_of, picture_of, sized_of, File, file_of, file_run, Shown, Opened, Answers, opened_file, taken_run, heard_run, WordTold, told_run, number_of};
 ghost use Rattle.pgm2rec.specs.Whole.{Walked};
 
 use files::Filled;
-use libc::{STDERR_FILENO, STDOUT_FILENO};
 use options::{Options, Taken};
 use pgm::Made;
+use std::env::FillError;
+use std::io::{Error, ErrorKind, Print};
+use std::rt::Env;
+use std::{fs, io, str};
 
 // Between two words.
 #[derive(Clone, Copy)]
@@ -89,7 +92,6 @@ fn written(run: Run, is_out: bool) -> Run
     ensures { result ≡ written_of run is_out }
 {
     if !is_out {
-        os::fail(b"standard output");
         return stopped(run);
     }
     let options = run.options;
@@ -101,53 +103,70 @@ fn written(run: Run, is_out: bool) -> Run
     }
 }
 
-// A line on standard error: what is wrong, and why.
-fn say(what: &[u8], why: &[u8]) {
-    io::write_all(STDERR_FILENO, what);
-    io::write_all(STDERR_FILENO, b": ");
-    io::write_all(STDERR_FILENO, why);
-    io::write_all(STDERR_FILENO, b"\n");
+// A line on standard error: what is wrong, and why. A write that fails is not told of.
+fn say(rt: &HostRuntime, what: &[u8], why: &[u8]) {
+    let errors = rt.stderr();
+    let _ = errors.write_all(what);
+    let _ = errors.write_all(b": ");
+    let _ = errors.write_all(why);
+    let _ = errors.write_all(b"\n");
+}
+
+// The same, where the system tells why.
+fn fail(rt: &HostRuntime, what: &[u8], why: Error) {
+    let errors = rt.stderr();
+    let _ = errors.write_all(what);
+    let _ = errors.write_all(b": ");
+    let _ = errors.println(why);
 }
 
 // Why a picture is refused.
-fn explain(path: &[u8], k: u8) {
+fn explain(rt: &HostRuntime, path: &[u8], k: u8) {
     match k {
-        1 => say(path, b"no PGM picture (P2 or P5)"),
-        2 => say(path, b"what stands before the pixels is cut short or wrong"),
-        3 => say(path, b"a side is 0 or above 65535"),
-        4 => say(path, b"the largest gray is 0 or above 255"),
-        5 => say(path, b"more than 65526 pixels"),
-        6 => say(path, b"too few pixels, or one that is no number"),
-        _ => say(path, b"a pixel is above the largest gray"),
+        1 => say(rt, path, b"no PGM picture (P2 or P5)"),
+        2 => say(
+            rt,
+            path,
+            b"what stands before the pixels is cut short or wrong",
+        ),
+        3 => say(rt, path, b"a side is 0 or above 65535"),
+        4 => say(rt, path, b"the largest gray is 0 or above 255"),
+        5 => say(rt, path, b"more than 65526 pixels"),
+        6 => say(rt, path, b"too few pixels, or one that is no number"),
+        _ => say(rt, path, b"a pixel is above the largest gray"),
     }
 }
 
-fn usage() {
+fn usage(rt: &HostRuntime) {
     say(
+        rt,
         b"usage",
         b"pgm2rec [--eps=DECIMAL] [--max-iter=N] [--filter=N] [--edge=N] PICTURE.. > records",
     );
 }
 
 // Why a word is refused, by the table of crate options; the usage, where it is asked for.
-fn refuse(word: &[u8], k: u8) {
+fn refuse(rt: &HostRuntime, word: &[u8], k: u8) {
     match k {
-        1 => usage(),
+        1 => usage(rt),
         2 => say(
+            rt,
             word,
             b"no such setting; there are --eps=, --max-iter=, --filter=, --edge=",
         ),
-        3 => say(word, b"no whole number such as 3 behind the ="),
+        3 => say(rt, word, b"no whole number such as 3 behind the ="),
         4 => say(
+            rt,
             word,
             b"too large; at most 65535 for --filter, 4294967295 for --max-iter and --edge",
         ),
-        5 => say(word, b"no decimal number such as 0.0001, .5 or 1e-4"),
+        5 => say(rt, word, b"no decimal number such as 0.0001, .5 or 1e-4"),
         6 => say(
+            rt,
             word,
             b"too many digits; at most 7 behind the point, and e-4 counts as 4",
         ),
-        _ => say(word, b"too large; at most 16777216 without its point"),
+        _ => say(rt, word, b"too large; at most 16777216 without its point"),
     }
 }
 
@@ -180,114 +199,139 @@ fn put_picture(run: Run, file: &[u8], out: &mut [u8]) -> Made
 }
 
 // Writes the records of a picture. Nothing else is written to standard output.
-fn write(run: Run, bytes: &[u8]) -> Run
+fn write(rt: &HostRuntime, run: Run, bytes: &[u8]) -> Run
     requires { Shown run bytes.now }
-    ensures { (is◌out : Bool) × (result ≡ written_of run is◌out) }
+    ensures { (is_out : Bool) × (result ≡ written_of run is_out) }
 {
-    written(run, io::write_all(STDOUT_FILENO, bytes))
+    match rt.stdout().write_all(bytes) {
+        Ok(()) => written(run, true),
+        Err(e) => {
+            fail(rt, b"standard output", e);
+            written(run, false)
+        }
+    }
 }
 
 // What a file's bytes are as a picture: written, or refused.
-fn show(run: Run, path: &[u8], file: &[u8], out: &mut [u8]) -> Run
+fn show(rt: &HostRuntime, run: Run, path: &[u8], file: &[u8], out: &mut [u8]) -> Run
     requires { length out.old ≡ 65556 }
-    ensures { (is◌out : Bool) × (result ≡ file_run run is◌out (File.Read file.now)) }
+    ensures { (is_out : Bool) × (result ≡ file_run run is_out (File.Read file.now)) }
 {
     let made = put_picture(run, file, out);
     match made {
         Made::Refused(k) => {
-            explain(path, k);
+            explain(rt, path, k);
             stopped(run)
         }
-        Made::Size(n) => write(run, &out[..n]),
+        Made::Size(n) => write(rt, run, &out[..n]),
     }
 }
 
 // By how the file was read into the buffer.
-fn filled(run: Run, path: &[u8], file: Filled, buf: &[u8], out: &mut [u8]) -> Run
+fn filled(rt: &HostRuntime, run: Run, path: &[u8], file: Filled, buf: &[u8], out: &mut [u8]) -> Run
     requires { (length out.old ≡ 65556) × (file.count ≤ length buf.now) }
-    ensures { (is◌out : Bool) × (result ≡ file_run run is◌out (file_of file buf.now)) }
+    ensures { (is_out : Bool) × (result ≡ file_run run is_out (file_of file buf.now)) }
 {
     if !file.is_read {
-        os::fail(path);
+        say(rt, path, b"a read of it failed");
         return stopped(run);
     }
     let n = file.count;
     if n == buf.len() {
-        say(path, b"more than 65535 bytes");
+        say(rt, path, b"more than 65535 bytes");
         return stopped(run);
     }
-    show(run, path, &buf[..n], out)
+    show(rt, run, path, &buf[..n], out)
 }
 
 // By whether the file could be opened.
-fn opened(run: Run, path: &[u8], fd: i32, buf: &mut [u8], out: &mut [u8]) -> Run
+fn opened(
+    rt: &HostRuntime,
+    run: Run,
+    path: &[u8],
+    input: io::Result<fs::File>,
+    buf: &mut [u8],
+    out: &mut [u8],
+) -> Run
     requires { (length buf.old ≡ 65536) × (length out.old ≡ 65556) }
-    ensures { Opened run fd buf.new result }
+    ensures { Opened run (number_of input) buf.new result }
 {
-    if fd < 0 {
-        os::fail(path);
-        return stopped(run);
+    match input {
+        Err(e) => {
+            fail(rt, path, e);
+            stopped(run)
+        }
+        Ok(mut file) => {
+            let held = files::fill(&mut file, buf);
+            filled(rt, run, path, held, buf, out)
+        }
     }
-    let file = files::fill(fd, buf);
-    let after = filled(run, path, file, buf, out);
-    libc::close(fd);
-    after
+}
+
+// Opens the file of that name. std takes a name as text, so one that is not UTF-8 can't be opened.
+fn open(rt: &HostRuntime, path: &[u8]) -> io::Result<fs::File> {
+    match str::from_utf8(path) {
+        Ok(name) => fs::File::open(rt, name),
+        Err(_) => Err(Error::new(ErrorKind::InvalidInput, "the name is not UTF-8")),
+    }
 }
 
 // The picture of a file.
-fn picture(run: Run, path: &[u8]) -> Run
+fn picture(rt: &HostRuntime, run: Run, path: &[u8]) -> Run
     ensures { (a : Answers) × (result ≡ file_run run a.out (opened_file a.fd a.file)) }
 {
-    let mut input = io::large_buffer();
+    let mut input = [0u8; 65536];
     let mut output = [0u8; 65556];
     let buf: &mut [u8] = &mut input;
     let out: &mut [u8] = &mut output;
-    opened(run, path, os::open_read(path), buf, out)
+    opened(rt, run, path, open(rt, path), buf, out)
 }
 
 // By what the word is.
-fn taken(run: Run, word: &[u8]) -> Run
+fn taken(rt: &HostRuntime, run: Run, word: &[u8]) -> Run
     ensures { (a : Answers) × (result ≡ taken_run run a (word_of run.options word.now)) }
 {
     let kind = options::take_word(run.options, word);
     match kind {
         Taken::Settings(options) => changed(run, options),
-        Taken::Picture => picture(run, word),
+        Taken::Picture => picture(rt, run, word),
         Taken::Bad(k) => {
-            refuse(word, k);
+            refuse(rt, word, k);
             stopped(run)
         }
     }
 }
 
 // By whether the word could be had.
-fn heard(run: Run, error: i32, word: &[u8]) -> Run
+fn heard(rt: &HostRuntime, run: Run, error: i32, word: &[u8]) -> Run
     ensures { (a : Answers) × (result ≡ heard_run run error word.now a) }
 {
     if error != 0 {
-        os::fail(b"argument");
+        say(rt, b"argument", b"longer than 4096 bytes");
         return stopped(run);
     }
-    taken(run, word)
+    taken(rt, run, word)
 }
 
 // The next word.
-fn turn(run: Run) -> Run
+fn turn(rt: &HostRuntime, run: Run) -> Run
     requires { run.next < 18446744073709551615 }
     ensures { (t : WordTold) × (result ≡ told_run run t) }
 {
-    let mut bytes = io::buffer();
-    let n = os::arg(run.next, &mut bytes);
-    heard(onward(run), os::errno(), &bytes[..n])
+    let mut bytes = [0u8; 4096];
+    match rt.arg(run.next, &mut bytes) {
+        Ok(n) => heard(rt, onward(run), 0, &bytes[..n]),
+        Err(_) => heard(rt, onward(run), 1, b""),
+    }
 }
 
 // All words, the first of which is the program's own name, as long as the run goes on.
-fn words(count: usize) -> Run
+fn words(rt: &HostRuntime, count: usize) -> Run
     ensures { Walked count result }
 {
     let mut run = fresh();
     while run.next < count && run.is_going {
-        run = turn(run);
+        run = turn(rt, run);
     }
     run
 }
@@ -303,20 +347,34 @@ fn is_idle(run: Run) -> bool
 }
 
 // Names the last of count words, the first of which is the program's own name, as a setting; with no other word, tells the usage.
-fn say_idle(count: usize) {
+fn say_idle(rt: &HostRuntime, count: usize) {
     if count < 2 {
-        usage();
+        usage(rt);
         return;
     }
-    let mut bytes = io::buffer();
-    let n = os::arg(count - 1, &mut bytes);
-    say(&bytes[..n], b"no picture stands behind this setting");
+    let mut bytes = [0u8; 4096];
+    let why = b"no picture stands behind this setting";
+    match rt.arg(count - 1, &mut bytes) {
+        Ok(n) => say(rt, &bytes[..n], why),
+        Err(_) => say(rt, b"", why),
+    }
 }
 
-fn main() {
-    let count = os::arg_count();
-    let run = words(count);
+// How many words there are, with the program's own name. One that is longer than its buffer is there too.
+fn count_words(rt: &HostRuntime) -> usize {
+    let mut bytes = [0u8; 1];
+    for i in 0..usize::MAX {
+        if let Err(FillError::NotPresent) = rt.arg(i, &mut bytes) {
+            return i;
+        }
+    }
+    usize::MAX
+}
+
+fn main(rt: HostRuntime) {
+    let count = count_words(&rt);
+    let run = words(&rt, count);
     if is_idle(run) {
-        say_idle(count);
+        say_idle(&rt, count);
     }
 }

@@ -2,25 +2,27 @@
 // contract, so nothing else is done here.
 #![tactic(auto)]
 
-ghost use Rattle.std.specs.Prelude.{◌≡◌, ◌≤◌, length, take};
+ghost use Rattle.std.specs.Prelude.{◌≡◌, ◌+◌, ◌≤◌, length, take};
 ghost use Rattle.ports.specs.Ports.{Handed, Fetched};
 
-use libc::STDOUT_FILENO;
+use std::io::{Print, Read, Stdout};
 
-// Reads once, into the room behind the first n bytes, and answers how many bytes came.
-pub fn fetch(input: i32, buf: &mut [u8], n: usize) -> usize
+// Reads once, into the room behind the first n bytes, and answers how many bytes came: none where the read failed.
+pub fn fetch<R: Read>(input: &mut R, buf: &mut [u8], n: usize) -> usize
     requires { n ≤ length buf.old }
     ensures { Fetched buf.old n buf.new result }
 {
-    let got = libc::read(input, &mut buf[n..]);
-    io::count(got, &buf[n..])
+    match input.read(&mut buf[n..]) {
+        Ok(k) => k,
+        Err(_) => 0,
+    }
 }
 
-// Hands the first bytes of out, those that wait, to standard output, and answers how many wait afterwards: none.
-pub fn flush(out: &[u8], waits: usize) -> usize
+// Hands the first bytes of out, those that wait, to standard output, and answers how many wait afterwards: none. A write that fails is not told of.
+pub fn flush(output: Stdout, out: &[u8], waits: usize) -> usize
     requires { waits ≤ length out.now }
     ensures { (result ≡ 0) × Handed (take waits out.now) }
 {
-    io::write_all(STDOUT_FILENO, &out[..waits]);
+    let _ = output.write_all(&out[..waits]);
     0
 }

@@ -1,4 +1,4 @@
-// Records are read from a file descriptor, and a line is printed for each frame; at the end `done` or `cut`, and the count of frames.
+// Records are read from any reader, such as standard input or a file, and a line is printed for each frame; at the end `done` or `cut`, and the count of frames.
 //
 // What happens at each record is crate stream's; what a line says is crate text's; the two calls of the system are crate ports'. Here bytes are read
 // into a buffer and handed on, and lines are written: what waits is written before each read, so that every line is out before the program waits.
@@ -16,6 +16,7 @@ ghost use Rattle.reader.specs.Text.{text_of, last_of};
 ghost use Rattle.reader.specs.Turns.{Sizes, Ran, Closed, Finished, Logged};
 
 use lines::Line;
+use std::io::{Read, Stdout};
 use stream::{End, Event, State, Step};
 
 // The bytes from at to end of the input's buffer are still to be used, and the first put bytes of the output's buffer are still to be
@@ -44,12 +45,12 @@ fn slide(buf: &mut [u8], at: usize, end: usize) -> usize
 }
 
 // Writes what waits if little room is left, and answers where the next line goes.
-fn room(out: &[u8], waits: usize) -> usize
+fn room(output: Stdout, out: &[u8], waits: usize) -> usize
     requires { (waits ≤ length out.now) × (100 ≤ length out.now) }
     ensures { (result + 100 ≤ length out.now) × (result ≡ line_at out.now waits) × Handed (pushed_of out.now waits) }
 {
     if out.len() - waits < 100 {
-        ports::flush(out, waits)
+        ports::flush(output, out, waits)
     } else {
         waits
     }
@@ -75,14 +76,14 @@ fn put_last(out: &mut [u8], at: usize, end: End) -> usize
 }
 
 // Writes what waits, then reads once, into the room behind the bytes that are still to be used. The run ends if nothing comes.
-fn refill(input: i32, run: Run, buf: &mut [u8], out: &[u8]) -> Run
+fn refill<R: Read>(input: &mut R, output: Stdout, run: Run, buf: &mut [u8], out: &[u8]) -> Run
     requires { Good run (length buf.old) (length out.now) × (run.end - run.at < length buf.old) }
     ensures { Next run result (length buf.old) (length out.now) × Took run result buf.old buf.new
         × Handed (take run.put out.now) }
 {
     let state = run.state;
     let n = slide(buf, run.at, run.end);
-    let put = ports::flush(out, run.put);
+    let put = ports::flush(output, out, run.put);
     let k = ports::fetch(input, buf, n);
     let end = n + k;
     Run {
@@ -107,7 +108,14 @@ fn look(run: Run, buf: &[u8], store: &mut [u8], work: &mut [f32], marks: &mut [u
 }
 
 // What comes of a step: nothing, a read, a line, or the end.
-fn follow(input: i32, run: Run, step: Step, buf: &mut [u8], out: &mut [u8]) -> Run
+fn follow<R: Read>(
+    input: &mut R,
+    output: Stdout,
+    run: Run,
+    step: Step,
+    buf: &mut [u8],
+    out: &mut [u8],
+) -> Run
     requires { Good run (length buf.old) (length out.old) × Short run step }
     ensures { Next run result (length buf.old) (length out.old)
         × Followed run result step buf.old buf.new out.old out.new }
@@ -118,7 +126,7 @@ fn follow(input: i32, run: Run, step: Step, buf: &mut [u8], out: &mut [u8]) -> R
     let state = step.state;
     let at = run.at + step.used;
     match event {
-        Event::More => refill(input, run, buf, out),
+        Event::More => refill(input, output, run, buf, out),
         Event::Quiet => Run {
             at,
             end,
@@ -127,7 +135,7 @@ fn follow(input: i32, run: Run, step: Step, buf: &mut [u8], out: &mut [u8]) -> R
             state,
         },
         Event::Print(l) => {
-            let here = room(out, put);
+            let here = room(output, out, put);
             let there = put_line(out, here, l);
             Run {
                 at,
@@ -148,8 +156,9 @@ fn follow(input: i32, run: Run, step: Step, buf: &mut [u8], out: &mut [u8]) -> R
 }
 
 // One step of the stream, or one read.
-fn turn(
-    input: i32,
+fn turn<R: Read>(
+    input: &mut R,
+    output: Stdout,
     run: Run,
     buf: &mut [u8],
     out: &mut [u8],
@@ -163,12 +172,13 @@ fn turn(
         (length work.old) (length marks.old) }
 {
     let step = look(run, buf, store, work, marks);
-    follow(input, run, step, buf, out)
+    follow(input, output, run, step, buf, out)
 }
 
 // Turn after turn, from the first state, as long as the run goes on.
-fn turns(
-    input: i32,
+fn turns<R: Read>(
+    input: &mut R,
+    output: Stdout,
     buf: &mut [u8],
     out: &mut [u8],
     store: &mut [u8],
@@ -190,25 +200,26 @@ fn turns(
     // A proved loop has to end, and nothing says that the input does: the turns are counted down from a number that no run uses up.
     let mut left = u64::MAX;
     while left > 0 && run.is_going {
-        run = turn(input, run, buf, out, store, work, marks);
+        run = turn(input, output, run, buf, out, store, work, marks);
         left -= 1;
     }
     run
 }
 
 // Puts the last line behind what waits, and answers how many bytes wait with it.
-fn close(run: Run, out: &mut [u8]) -> usize
+fn close(output: Stdout, run: Run, out: &mut [u8]) -> usize
     requires { (run.at ≤ run.end) × (run.put ≤ length out.old) × (100 ≤ length out.old) }
     ensures { (result ≤ length out.old) × Closed run out.old out.new result }
 {
     let end = stream::finish(run.state, run.end - run.at);
-    let here = room(out, run.put);
+    let here = room(output, out, run.put);
     put_last(out, here, end)
 }
 
 // The whole stream, but for the last write: answers how many bytes then wait.
-fn whole(
-    input: i32,
+fn whole<R: Read>(
+    input: &mut R,
+    output: Stdout,
     buf: &mut [u8],
     out: &mut [u8],
     store: &mut [u8],
@@ -219,16 +230,16 @@ fn whole(
     ensures { (result ≤ length out.old)
         × Finished 12288 16 buf.old out.old store.old out.new result }
 {
-    let run = turns(input, buf, out, store, work, marks);
-    close(run, out)
+    let run = turns(input, output, buf, out, store, work, marks);
+    close(output, run, out)
 }
 
 // The whole stream.
-pub fn log(input: i32)
+pub fn log<R: Read>(input: &mut R, output: Stdout)
     ensures { Logged }
 {
-    let mut bytes = io::large_buffer();
-    let mut text = io::large_buffer();
+    let mut bytes = [0u8; 65536];
+    let mut text = [0u8; 65536];
     let mut held = [0u8; 1024];
     let mut floats = [0.0f32; 12288];
     let mut marked = [0u64; 16];
@@ -237,6 +248,6 @@ pub fn log(input: i32)
     let store: &mut [u8] = &mut held;
     let work: &mut [f32] = &mut floats;
     let marks: &mut [u64] = &mut marked;
-    let waits = whole(input, buf, out, store, work, marks);
-    ports::flush(out, waits);
+    let waits = whole(input, output, buf, out, store, work, marks);
+    ports::flush(output, out, waits);
 }

@@ -2,37 +2,40 @@
 // every read went well, how many bytes are held, and those bytes. What is to be printed comes from tools/pictures.
 #![tactic(auto)]
 
-use libc::STDOUT_FILENO;
+use std::fs::File;
+use std::io::Print;
 
-// A file's line.
-fn show(name: &[u8], buf: &mut [u8]) {
-    io::write_all(STDOUT_FILENO, name);
-    let fd = os::open_read(name);
-    if fd < 0 {
-        io::write_all(STDOUT_FILENO, b" can't be opened\n");
-        return;
+// A file's line. A write that fails is not told of.
+fn show(rt: &HostRuntime, name: &str, buf: &mut [u8]) {
+    let output = rt.stdout();
+    let _ = output.write_all(name.as_bytes());
+    match File::open(rt, name) {
+        Err(_) => {
+            let _ = output.write_all(b" can't be opened\n");
+        }
+        Ok(mut input) => {
+            let file = files::fill(&mut input, buf);
+            if file.is_read {
+                let _ = output.write_all(b" read ");
+            } else {
+                let _ = output.write_all(b" not read ");
+            }
+            let n = file.count;
+            let _ = output.print(n);
+            let _ = output.write_all(b" ");
+            let _ = output.write_all(&buf[..n]);
+            let _ = output.write_all(b"\n");
+        }
     }
-    let file = files::fill(fd, buf);
-    libc::close(fd);
-    if file.is_read {
-        io::write_all(STDOUT_FILENO, b" read ");
-    } else {
-        io::write_all(STDOUT_FILENO, b" not read ");
-    }
-    let n = file.count;
-    io::print_decimal(STDOUT_FILENO, n as u64);
-    io::write_all(STDOUT_FILENO, b" ");
-    io::write_all(STDOUT_FILENO, &buf[..n]);
-    io::write_all(STDOUT_FILENO, b"\n");
 }
 
-fn main() {
+fn main(rt: HostRuntime) {
     let mut bytes = [0u8; 16];
     let buf: &mut [u8] = &mut bytes;
-    show(b".", buf);
-    show(b"none", buf);
-    show(b"empty", buf);
-    show(b"short", buf);
-    show(b"exact", buf);
-    show(b"long", buf);
+    show(&rt, ".", buf);
+    show(&rt, "none", buf);
+    show(&rt, "empty", buf);
+    show(&rt, "short", buf);
+    show(&rt, "exact", buf);
+    show(&rt, "long", buf);
 }
