@@ -102,7 +102,7 @@ fn answer(
 ) -> Outcome
     requires { (w ≤ 4096) × (h ≤ 4096) × (w * h ≤ length store.now) }
     ensures value { result ≡ answer_of aligner frame.now w h store.now (length work.old) (length marks.old) }
-    ensures fact { let number = begun_of aligner (length frame.now) w h (length work.old) (length marks.old) in
+    ensures leaves { let number = begun_of aligner (length frame.now) w h (length work.old) (length marks.old) in
         Leaves number (size_of aligner.cfg w h) work.old work.new marks.old marks.new }
 {
     let number = known(aligner, w, h);
@@ -136,7 +136,7 @@ pub fn estimate(
 ) -> Reply
     ensures value { result ≡ estimate_of aligner frame.now w h store.old (length work.old) (length marks.old) }
     ensures store_after { store.new ≡ store_after frame.now w h store.old }
-    ensures fact { let number = refused_of aligner (length frame.now) w h (length store.old) (length work.old) (length marks.old) in
+    ensures leaves { let number = refused_of aligner (length frame.now) w h (length store.old) (length work.old) (length marks.old) in
         Leaves number (size_of aligner.cfg w h) work.old work.new marks.old marks.new }
 {
     let number = entry(frame.len(), w, h, store.len());

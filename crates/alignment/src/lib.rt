@@ -54,7 +54,7 @@ pub fn find_transform_ecc_euclidean(
     marks: &mut [u64],
 ) -> Outcome
     ensures value { result ≡ aligned_of template.now input.now w h cfg (length work.old) (length marks.old) }
-    ensures fact { let number = check_of (length template.now) (length input.now) w h cfg (length work.old) (length marks.old) in
+    ensures leaves { let number = check_of (length template.now) (length input.now) w h cfg (length work.old) (length marks.old) in
         Leaves number (size_of cfg w h) work.old work.new marks.old marks.new }
 {
     let number = checks::check(

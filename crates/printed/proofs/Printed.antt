@@ -12,9 +12,9 @@ use Rattle.stream.specs.Stream.{first_state, step_of, end_of}
 use Rattle.stream.specs.declared.Event.{Event}
 use Rattle.stream.specs.declared.Event.TheVariants as event
 use Rattle.stream.specs.declared.Step.{Step}
-use Rattle.log.specs.Log.{Log, line}
-use Rattle.log.specs.Pieces.{Reads, quiet, prints, takes, ends, breaks, all}
-use Rattle.log.proofs.Pieces.{whole}
+use Rattle.whole_log.specs.Log.{Log, line}
+use Rattle.whole_log.specs.Pieces.{Reads, quiet, prints, takes, ends, breaks, all}
+use Rattle.whole_log.proofs.Pieces.{whole}
 use Rattle.reader.specs.Run.{handed_by, turned_by, pending, brought_of, pushed_of}
 use Rattle.reader.specs.Text.{text_of, last_of}
 use Rattle.reader.specs.Turns.{Turns, none, further, read_by}

@@ -5,8 +5,8 @@
 -- input's, when a call was made, and that nothing is handed over twice or besides. For this the calls of `flush` are to be read: three in
 -- crate reader, one before each read, one where there is no room for a line, one at the end.
 use Rattle.std.specs.Prelude.{ℕ, ◌≡◌, false, List, ◌++◌, take}
-use Rattle.log.specs.Log.{Log, line, last, log_of}
-use Rattle.log.specs.Pieces.{all}
+use Rattle.whole_log.specs.Log.{Log, line, last, log_of}
+use Rattle.whole_log.specs.Pieces.{all}
 use Rattle.reader.specs.Run.{pushed_of}
 use Rattle.reader.specs.Text.{text_of, last_of}
 use Rattle.reader.specs.Turns.{Logged}

@@ -49,30 +49,26 @@ fn remembered(cfg: EccConfig, state: &[u64]) -> EccAligner
     }
 }
 
-#[unsafe(no_mangle)]
-pub extern "C" fn quayhollow_version() -> u32
+pub fn quayhollow_version() -> u32
     ensures { result ≡ 3 }
 {
     3
 }
 
-#[unsafe(no_mangle)]
-pub extern "C" fn quayhollow_work_len(w: usize, h: usize, edge: usize) -> usize
+pub fn quayhollow_work_len(w: usize, h: usize, edge: usize) -> usize
     ensures { result ≡ 12 * pixel_count_of w h edge }
 {
     12 * boundary::pixels(w, h, edge)
 }
 
 // How many words, each for the marks of sixty-four pixels.
-#[unsafe(no_mangle)]
-pub extern "C" fn quayhollow_marks_len(w: usize, h: usize, edge: usize) -> usize
+pub fn quayhollow_marks_len(w: usize, h: usize, edge: usize) -> usize
     ensures { result ≡ words_for (pixel_count_of w h edge) }
 {
     (boundary::pixels(w, h, edge) + 63) / 64
 }
 
-#[unsafe(no_mangle)]
-pub extern "C" fn quayhollow_store_len(w: usize, h: usize) -> usize
+pub fn quayhollow_store_len(w: usize, h: usize) -> usize
     ensures { result ≡ store_length_of w h }
 {
     if w > EccConfig::MOST_SIDE {
@@ -85,8 +81,7 @@ pub extern "C" fn quayhollow_store_len(w: usize, h: usize) -> usize
 }
 
 // The alignment of an input frame with a template.
-#[unsafe(no_mangle)]
-pub extern "C" fn quayhollow_align(
+pub fn quayhollow_align(
     template: &[u8],
     input: &[u8],
     w: usize,
@@ -99,10 +94,10 @@ pub extern "C" fn quayhollow_align(
     marks: &mut [u64],
     pose: &mut [f32],
 ) -> u32
-    ensures fact { let cfg = config_of eps max_iter filter edge in
+    ensures value { let cfg = config_of eps max_iter filter edge in
         let o = aligned_of template.now input.now w h cfg (length work.old) (length marks.old) in
         (result ≡ code_of o) × (pose.new ≡ fronted (pose_of o.answer) pose.old) }
-    ensures fact_2 { let cfg = config_of eps max_iter filter edge in
+    ensures leaves { let cfg = config_of eps max_iter filter edge in
         let number = check_of (length template.now) (length input.now) w h cfg (length work.old) (length marks.old) in
         Leaves number (size_of cfg w h) work.old work.new marks.old marks.new }
 {
@@ -114,8 +109,7 @@ pub extern "C" fn quayhollow_align(
 }
 
 // The matrix of an answer that is handed in, row after row.
-#[unsafe(no_mangle)]
-pub extern "C" fn quayhollow_matrix(number: u8, theta: f32, tx: f32, ty: f32, out: &mut [f32])
+pub fn quayhollow_matrix(number: u8, theta: f32, tx: f32, ty: f32, out: &mut [f32])
     ensures { out.new ≡ fronted (entries_of (matrix_of (handed_of number theta tx ty))) out.old }
 {
     boundary::put_matrix(
@@ -125,8 +119,7 @@ pub extern "C" fn quayhollow_matrix(number: u8, theta: f32, tx: f32, ty: f32, ou
 }
 
 // The numbers for the pins of an answer that is handed in, to a frame of w by h pixels.
-#[unsafe(no_mangle)]
-pub extern "C" fn quayhollow_pins(
+pub fn quayhollow_pins(
     number: u8,
     theta: f32,
     tx: f32,
@@ -144,8 +137,7 @@ pub extern "C" fn quayhollow_pins(
 }
 
 // The alignment of a frame with the one before it. The caller keeps what is remembered: three numbers in `state`, the frame in `store`.
-#[unsafe(no_mangle)]
-pub extern "C" fn quayhollow_estimate(
+pub fn quayhollow_estimate(
     frame: &[u8],
     w: usize,
     h: usize,
@@ -159,12 +151,12 @@ pub extern "C" fn quayhollow_estimate(
     marks: &mut [u64],
     pose: &mut [f32],
 ) -> u32
-    ensures fact { let before = remembered_of (config_of eps max_iter filter edge) state.old in
+    ensures value { let before = remembered_of (config_of eps max_iter filter edge) state.old in
         let o = (estimate_of before frame.now w h store.old (length work.old) (length marks.old)).outcome in
         (result ≡ code_of o) × (pose.new ≡ fronted (pose_of o.answer) pose.old) }
     ensures state_after { (state.new ≡ state_after (length frame.now) w h (length store.old) state.old)
         × (store.new ≡ store_after frame.now w h store.old) }
-    ensures fact_2 { let cfg = config_of eps max_iter filter edge in
+    ensures leaves { let cfg = config_of eps max_iter filter edge in
         let number = refused_of (remembered_of cfg state.old) (length frame.now) w h (length store.old) (length work.old) (length marks.old) in
         Leaves number (size_of cfg w h) work.old work.new marks.old marks.new }
 {

@@ -17,7 +17,7 @@ use Rattle.records.specs.declared.Record.{Record}
 use Rattle.records.specs.declared.Record.TheVariants.{More, Settings, Frame, Large, Other, Broken}
 use Rattle.lines.specs.Lines.{line_of}
 use Rattle.stream.specs.Stream.{too_large, pixels_of}
-use Rattle.log.specs.Log.{Log, Reader, past, from, log_n, log_from, log_of}
+use Rattle.whole_log.specs.Log.{Log, Reader, past, from, log_n, log_from, log_of}
 use Rattle.seven.specs.Log.{EveryLine, LogNeverSeven}
 use Rattle.seven.proofs.Calls.{given, NotNumber, other, refused_other, estimated_other}
 

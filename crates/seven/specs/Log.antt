@@ -2,7 +2,7 @@
 use Rattle.std.specs.Prelude.{ℕ, ◌≡◌, List}
 use Rattle.lists.specs.Premises.{AreBytes}
 use Rattle.lines.specs.declared.Line.{Line}
-use Rattle.log.specs.Log.{Log, line, last, log_of}
+use Rattle.whole_log.specs.Log.{Log, line, last, log_of}
 
 -- P holds of every line of a log that belongs to a frame
 abbrev pub EveryLine : (Line → Type 0) → Log → Type 0

@@ -18,7 +18,7 @@ returns-then-number-ne0 c =
     let number = c.known-number.ensures in
     let no = ne_eqb _ 0 (λ e. c.if-number-ne0.true (number ∙ e)) in
     let a = c.args in
-    let why = begun_refused a.aligner (length a.frame.now) a.w a.h (length a.work.now) (length a.marks.now) no in record { value = c.refused.ensures ∙ ap (λ (k : ℕ). record { passes = 0; answer = Refused k }) number ∙ sym (pick_false _ _ _ no); fact = (rw why (sym (pick_false _ _ _ no)), rw why (sym (pick_false _ _ _ no))) }
+    let why = begun_refused a.aligner (length a.frame.now) a.w a.h (length a.work.now) (length a.marks.now) no in record { value = c.refused.ensures ∙ ap (λ (k : ℕ). record { passes = 0; answer = Refused k }) number ∙ sym (pick_false _ _ _ no); leaves = (rw why (sym (pick_false _ _ _ no)), rw why (sym (pick_false _ _ _ no))) }
 
 pub returns : goal.returns
 unfolding answer_of
@@ -27,4 +27,4 @@ returns c =
     let p = c.requires in
     let yes = eq-eqb _ 0 (sym c.known-number.ensures ∙ c.if-number-ne0.false) in
     let full = length-take-le (a.w * a.h) a.store.now p.2 in
-    let why = begun_checked a.aligner (length a.frame.now) a.w a.h (length a.work.now) (length a.marks.now) yes in record { value = c.find_transform_ecc_euclidean.ensures.value ∙ sym (pick_true _ _ _ yes); fact = (rw (why, ← full) c.find_transform_ecc_euclidean.ensures.fact.0, rw (why, ← full) c.find_transform_ecc_euclidean.ensures.fact.1) }
+    let why = begun_checked a.aligner (length a.frame.now) a.w a.h (length a.work.now) (length a.marks.now) yes in record { value = c.find_transform_ecc_euclidean.ensures.value ∙ sym (pick_true _ _ _ yes); leaves = (rw (why, ← full) c.find_transform_ecc_euclidean.ensures.leaves.0, rw (why, ← full) c.find_transform_ecc_euclidean.ensures.leaves.1) }

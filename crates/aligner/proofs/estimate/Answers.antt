@@ -24,7 +24,7 @@ returns-then-number-ne0 c =
       value = ap (λ (o : Outcome). record { aligner = a.aligner; outcome = o }) (c.refused.ensures ∙ ap (λ (k : ℕ). record { passes = 0; answer = Refused k }) number)
           ∙ sym (pick_false _ _ _ no);
       store_after = sym (pick_false _ _ _ no);
-      fact = (rw why (sym (pick_false _ _ _ no)), rw why (sym (pick_false _ _ _ no)));
+      leaves = (rw why (sym (pick_false _ _ _ no)), rw why (sym (pick_false _ _ _ no)));
     }
 
 pub answer-outcome-requires : goal.answer-outcome-requires
@@ -46,5 +46,5 @@ returns c =
       value = ap (λ (o : Outcome). record { aligner = record { cfg = a.aligner.cfg; held = true; prev_w = a.w; prev_h = a.h }; outcome = o }) c.answer-outcome.ensures.value
           ∙ sym (pick_true _ _ _ yes);
       store_after = c.keep.ensures ∙ sym (pick_true _ _ _ yes);
-      fact = (rw why c.answer-outcome.ensures.fact.0, rw why c.answer-outcome.ensures.fact.1);
+      leaves = (rw why c.answer-outcome.ensures.leaves.0, rw why c.answer-outcome.ensures.leaves.1);
     }

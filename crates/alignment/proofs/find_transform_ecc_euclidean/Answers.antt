@@ -19,7 +19,7 @@ unfolding aligned_of work_after marks_after
 returns-then-number-ne0 c =
     let number = c.check-number.ensures in
     let no = ne_eqb _ 0 (λ e. c.if-number-ne0.true (number ∙ e)) in
-    record { value = ap (λ (k : ℕ). record { passes = 0; answer = Refused k }) number ∙ sym (pick_false _ _ _ no); fact = (sym (pick_false _ _ _ no), sym (pick_false _ _ _ no)) }
+    record { value = ap (λ (k : ℕ). record { passes = 0; answer = Refused k }) number ∙ sym (pick_false _ _ _ no); leaves = (sym (pick_false _ _ _ no), sym (pick_false _ _ _ no)) }
 
 pub resized-s-requires : goal.resized-s-requires
 resized-s-requires c = (past _ _ _ _ _ _ _ (sym c.check-number.ensures ∙ c.if-number-ne0.false)).sides
@@ -40,7 +40,7 @@ returns c =
     let sides = c.resized-s.ensures.0 ∙ ap (λ (k : ℕ). resized_of k a.w a.h) c.edge.ensures in
     let n = size_is a.cfg a.w a.h _ _ c.resized-s.ensures.0 c.edge.ensures in record {
       value = c.align.ensures.value ∙ ap (λ (s : Sides). run_of a.template.now a.input.now a.w a.h s.w s.h a.cfg) sides ∙ sym (pick_true _ _ _ yes);
-      fact = (
+      leaves = (
         c.align.ensures.work_after.0 ∙ ap (λ (n : ℕ). put a.work.now 0 (tab (12 * n) (λ _. 0f))) n ∙ sym (pick_true _ _ _ yes),
         c.align.ensures.work_after.1 ∙ ap (λ (n : ℕ). put a.marks.now 0 (tab (words_for n) (λ _. 0))) n ∙ sym (pick_true _ _ _ yes),
       );

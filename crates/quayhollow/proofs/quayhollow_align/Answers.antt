@@ -9,4 +9,4 @@ code-requires c = rw c.find_transform_ecc_euclidean-o.ensures.value (aligned_sma
 pub returns : goal.returns
 returns c =
     let e = c.find_transform_ecc_euclidean-o.ensures in
-    rw (← c.config-cfg.ensures) (handed_on _ e.value c.code.ensures c.put_pose.ensures, e.fact)
+    rw (← c.config-cfg.ensures) record { value = handed_on _ e.value c.code.ensures c.put_pose.ensures; leaves = e.leaves }

@@ -13,7 +13,9 @@ pub returns : goal.returns
 returns c =
     let e = c.estimate-reply.ensures in
     let cfg = remembered_cfg c.config-cfg.result c.args.state.now in
-    rw (← c.config-cfg.ensures, ← c.remembered-before.ensures) (
-      handed_on _ (ap (λ (r : Reply). r.outcome) e.value) c.code.ensures c.put_pose.ensures,
-      ((c.put_state.ensures, e.store_after), rw (← cfg, ← c.remembered-before.ensures) e.fact),
-    )
+    rw (← c.config-cfg.ensures, ← c.remembered-before.ensures)
+    record {
+      value = handed_on _ (ap (λ (r : Reply). r.outcome) e.value) c.code.ensures c.put_pose.ensures;
+      state_after = (c.put_state.ensures, e.store_after);
+      leaves = rw (← cfg, ← c.remembered-before.ensures) e.leaves;
+    }

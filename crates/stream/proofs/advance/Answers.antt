@@ -13,13 +13,14 @@ use Rattle.stream.proofs.advance.Goals as goal
 pub returns-then-state-ne0 : goal.returns-then-state-ne0
 returns-then-state-ne0 c =
     let a = c.args in
-    read_over a.state a.s.now a.store.now a.work.now a.marks.now (ne_eqb _ 0 c.if-state-ne0.true) c.over.ensures
+    let m = read_over a.state a.s.now a.store.now a.work.now a.marks.now (ne_eqb _ 0 c.if-state-ne0.true) c.over.ensures in
+    record { value = m.0; store_after = m.1.0; work_after = m.1.1 }
 
 pub answer-requires : goal.answer-requires
 answer-requires c =
     let a = c.args in
-    let r = c.record-in-Frame-1.given.0 in
-    let e : next_of a.s.now ≡ Frame r.0 r.1.0 r.1.1.0 = cc in
+    let r = c.in-Frame in
+    let e : next_of a.s.now ≡ Frame r.w r.h r.size = cc in
     (c.requires, (subst (Known a.s.now) e (known a.s.now)).0)
 
 pub returns-in-More : goal.returns-in-More
@@ -27,23 +28,26 @@ unfolding act_of at_frame store_by work_by marks_by
 returns-in-More c =
     let a = c.args in
     let e : next_of a.s.now ≡ More = cc in
-    at_record a.state a.s.now a.store.now a.work.now a.marks.now (eq-eqb _ 0 c.if-state-ne0.false) (More) e refl refl refl refl
+    let m = at_record a.state a.s.now a.store.now a.work.now a.marks.now (eq-eqb _ 0 c.if-state-ne0.false) (More) e refl refl refl refl in
+    record { value = m.0; store_after = m.1.0; work_after = m.1.1 }
 
 pub returns-in-Settings : goal.returns-in-Settings
 unfolding act_of at_frame store_by work_by marks_by
 returns-in-Settings c =
     let a = c.args in
-    let cfg = c.«record».given.0.0 in
+    let cfg = c.in-Settings.cfg in
     let e : next_of a.s.now ≡ Settings cfg = cc in
-    at_record a.state a.s.now a.store.now a.work.now a.marks.now (eq-eqb _ 0 c.if-state-ne0.false) (Settings cfg) e (rw c.new.ensures) refl refl refl
+    let m = at_record a.state a.s.now a.store.now a.work.now a.marks.now (eq-eqb _ 0 c.if-state-ne0.false) (Settings cfg) e (rw c.new.ensures) refl refl refl in
+    record { value = m.0; store_after = m.1.0; work_after = m.1.1 }
 
 pub returns-in-Frame : goal.returns-in-Frame
 returns-in-Frame c =
     let a = c.args in
-    let r = c.record-in-Frame-1.given.0 in
+    let r = c.in-Frame in
     let f = c.answer.ensures in
-    let e : next_of a.s.now ≡ Frame r.0 r.1.0 r.1.1.0 = cc in
-    at_record a.state a.s.now a.store.now a.work.now a.marks.now (eq-eqb _ 0 c.if-state-ne0.false) (Frame r.0 r.1.0 r.1.1.0) e f.value f.fact.0 f.fact.1.0 f.fact.1.1
+    let e : next_of a.s.now ≡ Frame r.w r.h r.size = cc in
+    let m = at_record a.state a.s.now a.store.now a.work.now a.marks.now (eq-eqb _ 0 c.if-state-ne0.false) (Frame r.w r.h r.size) e f.value f.store_after f.work_after.0 f.work_after.1 in
+    record { value = m.0; store_after = m.1.0; work_after = m.1.1 }
 
 pub returns-in-Large : goal.returns-in-Large
 unfolding act_of at_frame store_by work_by marks_by
@@ -51,7 +55,8 @@ returns-in-Large c =
     let a = c.args in
     let n = c.in-Large.n in
     let e : next_of a.s.now ≡ Large n = cc in
-    at_record a.state a.s.now a.store.now a.work.now a.marks.now (eq-eqb _ 0 c.if-state-ne0.false) (Large n) e c.skip.ensures refl refl refl
+    let m = at_record a.state a.s.now a.store.now a.work.now a.marks.now (eq-eqb _ 0 c.if-state-ne0.false) (Large n) e c.skip.ensures refl refl refl in
+    record { value = m.0; store_after = m.1.0; work_after = m.1.1 }
 
 pub returns-in-Other : goal.returns-in-Other
 unfolding act_of at_frame store_by work_by marks_by
@@ -59,11 +64,13 @@ returns-in-Other c =
     let a = c.args in
     let n = c.in-Other.n in
     let e : next_of a.s.now ≡ Other n = cc in
-    at_record a.state a.s.now a.store.now a.work.now a.marks.now (eq-eqb _ 0 c.if-state-ne0.false) (Other n) e c.skip-in-Other.ensures refl refl refl
+    let m = at_record a.state a.s.now a.store.now a.work.now a.marks.now (eq-eqb _ 0 c.if-state-ne0.false) (Other n) e c.skip-in-Other.ensures refl refl refl in
+    record { value = m.0; store_after = m.1.0; work_after = m.1.1 }
 
 pub returns-in-Broken : goal.returns-in-Broken
 unfolding act_of at_frame store_by work_by marks_by
 returns-in-Broken c =
     let a = c.args in
     let e : next_of a.s.now ≡ Broken = cc in
-    at_record a.state a.s.now a.store.now a.work.now a.marks.now (eq-eqb _ 0 c.if-state-ne0.false) (Broken) e refl refl refl refl
+    let m = at_record a.state a.s.now a.store.now a.work.now a.marks.now (eq-eqb _ 0 c.if-state-ne0.false) (Broken) e refl refl refl refl in
+    record { value = m.0; store_after = m.1.0; work_after = m.1.1 }

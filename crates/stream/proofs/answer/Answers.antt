@@ -15,4 +15,4 @@ unfolding act_of at_frame store_by work_by marks_by
 returns c =
     let e = c.estimate-reply in
     let n = c.args.size in
-    let part : 10 + n - 10 ≡ n = omega arith in record { value = rw (c.line_of.ensures, rw part at e.ensures.value); fact = (rw part at e.ensures.store_after, (rw part at e.ensures.fact.0, rw part at e.ensures.fact.1)) }
+    let part : 10 + n - 10 ≡ n = omega arith in record { value = rw (c.line_of.ensures, rw part at e.ensures.value); store_after = rw part at e.ensures.store_after; work_after = (rw part at e.ensures.leaves.0, rw part at e.ensures.leaves.1) }

@@ -7,7 +7,7 @@ use Rattle.stream.specs.Memory.{stepped_store}
 use Rattle.stream.specs.declared.Event.TheVariants as event
 use Rattle.lines.specs.declared.Line.{Line}
 use Rattle.stream.specs.declared.State.{State}
-use Rattle.log.specs.Log.{Log, line, last, past, log_from}
+use Rattle.whole_log.specs.Log.{Log, line, last, past, log_from}
 
 -- Reads work marks st store s ps l: with work and marks of these lengths lent, in the state st, with the bytes s at hand and the pieces ps still to come, l is printed.
 -- A step is taken; where it wants more, the next piece is; where none is left, and at a broken record, the last line is printed.

@@ -15,7 +15,7 @@ use Rattle.records.specs.declared.Record.TheVariants.{More, Settings, Frame, Lar
 use Rattle.lines.specs.Lines.{line_of}
 use Rattle.stream.specs.Stream.{pixels_of}
 use Rattle.stream.specs.declared.End.TheVariants.{Done}
-use Rattle.log.specs.Log.{line, last, Reader, past, from, log_n, log_from}
+use Rattle.whole_log.specs.Log.{line, last, Reader, past, from, log_n, log_from}
 use Rattle.lists.proofs.Cases.{pick_rest, some}
 
 -- two readers agree on what is shorter than n

@@ -2,8 +2,8 @@
 use Rattle.std.specs.Prelude.{ℕ, ◌≡◌, List, [], ◌++◌, length}
 use Rattle.stream.specs.Stream.{first_state}
 use Rattle.stream.specs.declared.State.{State}
-use Rattle.log.specs.Log.{Log, log_of}
-use Rattle.log.specs.Pieces.{Reads, all, outcome}
+use Rattle.whole_log.specs.Log.{Log, log_of}
+use Rattle.whole_log.specs.Pieces.{Reads, all, outcome}
 
 -- with work and marks of these lengths lent, in any state, with any bytes s at hand: in whatever pieces the others come, what is printed is what all of them give
 abbrev pub AnyPieces : Type 0

@@ -21,12 +21,12 @@ use Rattle.lines.specs.declared.Line.{Line}
 use Rattle.stream.specs.declared.State.{State}
 use Rattle.stream.specs.declared.Step.{Step}
 use Rattle.stream.proofs.Bounded.{bounded}
-use Rattle.log.specs.Log.{Log, line, last, log_of}
-use Rattle.log.specs.Pieces.{Reads, quiet, prints, takes, ends, breaks, all, outcome}
-use Rattle.log.specs.Whole.{AnyPieces, EveryReading, LogIsPrinted, NothingElse}
+use Rattle.whole_log.specs.Log.{Log, line, last, log_of}
+use Rattle.whole_log.specs.Pieces.{Reads, quiet, prints, takes, ends, breaks, all, outcome}
+use Rattle.whole_log.specs.Whole.{AnyPieces, EveryReading, LogIsPrinted, NothingElse}
 use Rattle.lists.proofs.Cases.{some}
-use Rattle.log.proofs.Right.{step_right, end_right}
-use Rattle.log.proofs.Store.{any_store}
+use Rattle.whole_log.proofs.Right.{step_right, end_right}
+use Rattle.whole_log.proofs.Store.{any_store}
 
 module _ (k m : ℕ) where
   read_right : {st : State} {store s : List ℕ} {ps : List (List ℕ)} {l : Log} → Reads k m st store s ps l → l ≡ outcome k m st store (s ++ all ps)

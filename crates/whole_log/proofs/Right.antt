@@ -25,10 +25,10 @@ use Rattle.stream.specs.declared.Event.{Event}
 use Rattle.stream.specs.declared.Event.TheVariants as event
 use Rattle.stream.specs.declared.State.{State}
 use Rattle.stream.specs.declared.Step.{Step}
-use Rattle.log.specs.Log.{Log, line, last, past, from, log_from}
-use Rattle.log.specs.Pieces.{outcome}
+use Rattle.whole_log.specs.Log.{Log, line, last, past, from, log_from}
+use Rattle.whole_log.specs.Pieces.{outcome}
 use Rattle.lists.proofs.Cases.{choose, some}
-use Rattle.log.proofs.Equation.{log_is}
+use Rattle.whole_log.proofs.Equation.{log_is}
 
 ltb_shift : (a b c : ℕ) → ltb (a + b) (a + c) ≡ ltb b c
 ltb_shift a b c =

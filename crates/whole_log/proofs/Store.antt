@@ -20,7 +20,7 @@ use Rattle.records.specs.declared.Record.{Record}
 use Rattle.records.specs.declared.Record.TheVariants.{More, Settings, Frame, Large, Other, Broken}
 use Rattle.lines.specs.Lines.{line_of}
 use Rattle.stream.specs.Stream.{pixels_of}
-use Rattle.log.specs.Log.{line, Reader, past, from, log_n, log_from}
+use Rattle.whole_log.specs.Log.{line, Reader, past, from, log_n, log_from}
 use Rattle.lists.proofs.Cases.{choose, passed}
 
 -- two stores that an aligner cannot tell apart: of one length, with the same previous frame, if there is one
