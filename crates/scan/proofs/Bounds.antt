@@ -1,11 +1,11 @@
 -- Digits that are found lie within the list, and their number is held. Assumes nothing.
-use Prim.Native.Nat.{ℕ, suc, ◌+◌, ◌-◌, ◌≤◌, ◌<◌}
+use Prim.Native.Nat.{ℕ, suc, ◌≤◌, ◌<◌}
 use mathlib.Core.Bool.{Bool, true, false}
 use mathlib.Core.List.{List, [], ◌∷◌}
 use native.Mathlib.Omega.{arith}
 use lib.ListN.{length, drop, length-drop}
 use Rattle.lists.specs.Marked.{pick}
-use Rattle.scan.specs.Scan.{is_digit, count_of, value_of, digits_at}
+use Rattle.scan.specs.Scan.{is_digit, count_of, digits_at}
 
 few : (s : List ℕ) → count_of s ≤ length s
 unfolding count_of pick

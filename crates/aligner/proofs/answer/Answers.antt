@@ -1,7 +1,6 @@
 -- `aligner::answer` meets its contract: 11 and 12 leave work and marks as they were; else the answer is the alignment's. Assumes nothing.
 use Prim.Native.Nat.{ℕ, ◌*◌}
 use mathlib.Core.Path.{sym, ap, ◌∙◌}
-use borrow.Author.Rules.{rules}
 use borrow.Author.Tests.{eq-eqb, ne_eqb}
 use lib.ListN.{length}
 use lib.Seq.{length-take-le}

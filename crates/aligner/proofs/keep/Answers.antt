@@ -1,10 +1,9 @@
 -- `aligner::keep` meets its contract. The loop's invariant: the first i bytes of the frame stand at the store's front. Assumes nothing.
 use mathlib.Core.Path.{◌≡◌, refl, ◌∙◌}
-use Prim.Native.Nat.{◌-◌, ◌≤◌}
+use Prim.Native.Nat.{◌-◌}
 use native.Mathlib.Omega.{arith}
 use borrow.Author.Rules.{rules}
-use lib.ListN.{length, take, length-set}
-use Rattle.lists.specs.Lists.{put}
+use lib.ListN.{length, length-set}
 use Rattle.lists.proofs.Copy.{copy_none, copy_more, copy_all}
 use Rattle.aligner.proofs.keep.Goals as goal
 

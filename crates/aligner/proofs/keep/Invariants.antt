@@ -1,11 +1,8 @@
 -- `aligner::keep` meets its contract. The loop's invariant: the first i bytes of the frame stand at the store's front. Assumes nothing.
-use mathlib.Core.Path.{◌≡◌, refl, ◌∙◌}
+use mathlib.Core.Path.{◌≡◌}
 use Prim.Native.Nat.{◌-◌, ◌≤◌}
-use native.Mathlib.Omega.{arith}
-use borrow.Author.Rules.{rules}
-use lib.ListN.{length, take, length-set}
+use lib.ListN.{length, take}
 use Rattle.lists.specs.Lists.{put}
-use Rattle.lists.proofs.Copy.{copy_none, copy_more, copy_all}
 use Rattle.aligner.proofs.keep.Given as goal
 
 abbrev pub invariant-loop-i : goal.invariant-loop-i

@@ -1,6 +1,5 @@
 -- `aligner::known` refuses where nothing is remembered, then where a side differs. Assumes nothing.
 use mathlib.Core.Path.{sym, ◌∙◌}
-use borrow.Author.Rules.{rules}
 use borrow.Author.Tests.{eq-eqb, ne_eqb, not-true, not-false}
 use Rattle.lists.proofs.Cases.{pick_true, pick_false}
 use Rattle.aligner.specs.Aligner.{known_of}

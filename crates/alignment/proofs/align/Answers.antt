@@ -3,7 +3,6 @@ use mathlib.Core.Path.{ap, ◌∙◌}
 use native.Mathlib.Omega.{arith}
 use Prim.Native.Nat.{ℕ, ◌*◌, ◌≤◌}
 use native.Mathlib.Nat.{le_refl, mul-le-mul}
-use borrow.Author.Rules.{rules}
 use mir.Facts.{Fits-le, Fits-lit}
 use Rattle.lists.specs.Lists.{tab, put}
 use Rattle.lists.proofs.Fill.{front_over}

@@ -1,7 +1,6 @@
 -- `alignment::find_transform_ecc_euclidean` meets its contract: a check that fails ends the call with its number; past the checks the call is `align`'s. Assumes nothing.
 use Prim.Native.Nat.{ℕ, ◌*◌}
 use mathlib.Core.Path.{sym, ap, ◌∙◌}
-use borrow.Author.Rules.{rules}
 use borrow.Author.Tests.{eq-eqb, ne_eqb}
 use Rattle.lists.specs.Lists.{tab, put}
 use Rattle.lists.specs.Marked.{words_for}

@@ -1,11 +1,9 @@
 -- `bits::count` meets its contract. Assumes nothing.
-use Prim.Native.Nat.{ℕ, ◌+◌, ◌-◌, ◌*◌, ◌≤◌}
+use Prim.Native.Nat.{ℕ, ◌+◌, ◌-◌, ◌≤◌}
 use mathlib.Core.Path.{◌≡◌, ap, ◌∙◌}
 use native.Mathlib.Omega.{arith}
-use borrow.Author.Rules.{rules}
 use lib.Count.{ones, ones-le}
 use lib.ListN.{get_or}
-use Rattle.bits.specs.Words.{ones_of}
 use Rattle.bits.proofs.Words.{ones_more, ones_none}
 use Rattle.bits.proofs.count.Goals as goal
 

@@ -1,12 +1,7 @@
 -- `bits::count` meets its contract. Assumes nothing.
-use Prim.Native.Nat.{ℕ, ◌+◌, ◌-◌, ◌*◌, ◌≤◌}
-use mathlib.Core.Path.{◌≡◌, ap, ◌∙◌}
-use native.Mathlib.Omega.{arith}
-use borrow.Author.Rules.{rules}
-use lib.Count.{ones, ones-le}
-use lib.ListN.{get_or}
+use Prim.Native.Nat.{◌-◌, ◌*◌, ◌≤◌}
+use mathlib.Core.Path.{◌≡◌}
 use Rattle.bits.specs.Words.{ones_of}
-use Rattle.bits.proofs.Words.{ones_more, ones_none}
 use Rattle.bits.proofs.count.Given as goal
 
 abbrev pub invariant-loop-j : goal.invariant-loop-j

@@ -4,7 +4,6 @@ use mathlib.Core.Path.{◌≡◌, subst}
 use mathlib.Core.List.{List}
 use mathlib.Core.Logic.{◌⊎◌, inl, inr}
 use native.Mathlib.Omega.{arith}
-use borrow.Author.Rules.{rules}
 use Rattle.lists.specs.Marked.{pick}
 use Rattle.bits.specs.Words.{bit_at}
 use Rattle.bits.proofs.Scan.{lt_or_le, none_left, found_in, found_other, found_same}

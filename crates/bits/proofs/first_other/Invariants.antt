@@ -1,13 +1,9 @@
 -- `bits::first_other` meets its contract. The invariant: the pixels passed have the bit that is passed by. Assumes nothing.
-use Prim.Native.Nat.{ℕ, ◌+◌, ◌-◌, ◌^◌, ◌≤◌, ◌<◌, min}
-use mathlib.Core.Path.{◌≡◌, subst}
+use Prim.Native.Nat.{ℕ, ◌+◌, ◌-◌, ◌≤◌, ◌<◌}
+use mathlib.Core.Path.{◌≡◌}
 use mathlib.Core.List.{List}
-use mathlib.Core.Logic.{◌⊎◌, inl, inr}
-use native.Mathlib.Omega.{arith}
-use borrow.Author.Rules.{rules}
 use Rattle.lists.specs.Marked.{pick}
 use Rattle.bits.specs.Words.{bit_at}
-use Rattle.bits.proofs.Scan.{lt_or_le, none_left, found_in, found_other, found_same}
 use Rattle.bits.proofs.first_other.Given as goal
 
 abbrev pub Passed : List ℕ → ℕ → ℕ → ℕ → ℕ → Type 0

@@ -1,6 +1,5 @@
 -- `bits::is_marked` meets its contract. Assumes nothing.
 use mathlib.Core.Path.{refl}
-use borrow.Author.Rules.{rules}
 use Rattle.bits.specs.Words.{bit_at}
 use Rattle.bits.proofs.is_marked.Goals as goal
 

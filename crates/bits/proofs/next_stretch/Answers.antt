@@ -5,7 +5,6 @@ use mathlib.Core.Bool.{true, false}
 use mathlib.Core.List.{List}
 use native.Mathlib.Omega.{arith}
 use lib.Arith.{lt_of_le-ne}
-use borrow.Author.Rules.{rules}
 use Rattle.lists.specs.Marked.{pick}
 use Rattle.bits.specs.Words.{bit_at}
 use Rattle.bits.specs.Stretches.{FirstOther, StretchOf}

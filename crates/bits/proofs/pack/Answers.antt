@@ -1,10 +1,8 @@
 -- `bits::pack` meets its contract. Assumes nothing.
-use Prim.Native.Nat.{◌-◌, ◌≤◌, ◌<◌}
+use Prim.Native.Nat.{◌-◌, ◌<◌}
 use mathlib.Core.Path.{◌≡◌, refl, ◌∙◌}
 use native.Mathlib.Omega.{arith}
-use borrow.Author.Rules.{rules}
-use lib.ListN.{length, length-set}
-use Rattle.bits.specs.Packing.{Packed}
+use lib.ListN.{length-set}
 use Rattle.bits.proofs.Packing.{packed_none, packed_more, total_is}
 use Rattle.bits.proofs.pack.Goals as goal
 

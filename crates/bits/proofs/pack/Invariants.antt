@@ -1,11 +1,8 @@
 -- `bits::pack` meets its contract. Assumes nothing.
-use Prim.Native.Nat.{◌-◌, ◌≤◌, ◌<◌}
-use mathlib.Core.Path.{◌≡◌, refl, ◌∙◌}
-use native.Mathlib.Omega.{arith}
-use borrow.Author.Rules.{rules}
-use lib.ListN.{length, length-set}
+use Prim.Native.Nat.{◌-◌, ◌≤◌}
+use mathlib.Core.Path.{◌≡◌}
+use lib.ListN.{length}
 use Rattle.bits.specs.Packing.{Packed}
-use Rattle.bits.proofs.Packing.{packed_none, packed_more, total_is}
 use Rattle.bits.proofs.pack.Given as goal
 
 abbrev pub invariant-loop-x : goal.invariant-loop-x

@@ -1,9 +1,7 @@
 -- `bits::total` meets its contract. Assumes nothing.
-use Prim.Native.Nat.{◌+◌, ◌-◌, ◌*◌, ◌^◌, ◌≤◌, ◌<◌}
+use Prim.Native.Nat.{◌+◌, ◌-◌, ◌^◌, ◌<◌}
 use mathlib.Core.Path.{◌≡◌, ap₂, ◌∙◌}
 use native.Mathlib.Omega.{arith}
-use borrow.Author.Rules.{rules}
-use Rattle.bits.specs.Packing.{total_of}
 use Rattle.bits.proofs.Packing.{total_none, total_more}
 use Rattle.bits.proofs.total.Goals as goal
 

@@ -1,5 +1,4 @@
 -- `blends::blend` meets its contract. Assumes nothing.
-use borrow.Author.Rules.{rules}
 use mathlib.Core.Path.{refl}
 use Rattle.blends.specs.Blend.{four_of}
 use Rattle.blends.specs.Reads.{four_at}

@@ -1,12 +1,10 @@
 -- `blends::blend_row` meets its contract. The loop's invariant: the first x pixels stand, and nothing else has changed. Assumes nothing.
-use Prim.Native.Nat.{◌+◌, ◌-◌, ◌≤◌}
+use Prim.Native.Nat.{◌-◌}
 use mathlib.Core.Path.{◌≡◌, refl}
 use native.Mathlib.Omega.{arith}
-use borrow.Author.Rules.{rules}
-use lib.ListN.{length, length-set}
-use Rattle.lists.specs.Lists.{tab, put}
+use lib.ListN.{length-set}
 use Rattle.lists.proofs.Fill.{fill_none}
-use Rattle.blends.proofs.Runs.{row_rule, row_more}
+use Rattle.blends.proofs.Runs.{row_more}
 use Rattle.blends.proofs.blend_row.Goals as goal
 
 pub loop-x-init : goal.loop-x-init

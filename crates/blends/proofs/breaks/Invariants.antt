@@ -1,15 +1,7 @@
 -- `blends::breaks` meets its contract. Assumes nothing.
-use Prim.Native.Nat.{ℕ, ◌+◌, ◌-◌, ◌≤◌, ◌<◌}
-use mathlib.Core.Path.{◌≡◌, sym, ap, ap₂, ◌∙◌}
-use mathlib.Core.Logic.{⊎_elim}
-use native.Mathlib.Nat.{add-zero}
-use native.Mathlib.Omega.{arith}
-use borrow.Author.Rules.{rules}
-use borrow.Author.Tests.{eq-eqb, ne_eqb}
-use Rattle.lists.specs.Marked.{pick}
-use Rattle.lists.proofs.Cases.{pick_true, pick_false}
+use Prim.Native.Nat.{◌-◌, ◌≤◌, ◌<◌}
+use mathlib.Core.Path.{◌≡◌}
 use Rattle.blends.specs.Reads.{breaks_of}
-use Rattle.blends.proofs.Runs.{next, breaks_none, breaks_turn, breaks_le}
 use Rattle.blends.proofs.breaks.Given as goal
 
 abbrev pub invariant-loop-x : goal.invariant-loop-x

@@ -1,10 +1,9 @@
 -- `blends::by_blocks` meets its contract: a turn reads some more pixels of the stretch, in one of two ways. Assumes nothing.
-use Prim.Native.Nat.{ℕ, ◌+◌, ◌-◌, ◌*◌, ◌≤◌, ◌<◌}
-use mathlib.Core.Path.{◌≡◌, sym, ◌∙◌}
+use Prim.Native.Nat.{ℕ, ◌+◌, ◌-◌, ◌≤◌, ◌<◌}
+use mathlib.Core.Path.{sym, ◌∙◌}
 use native.Mathlib.Omega.{arith}
-use borrow.Author.Rules.{rules}
 use lib.ListN.{get_or}
-use Rattle.blends.proofs.Stretch.{StretchHeld, stretch_start, stretch_end, taken, taken_block}
+use Rattle.blends.proofs.Stretch.{stretch_start, stretch_end, taken_block}
 use Rattle.blends.proofs.by_blocks.Goals as goal
 
 pub loop-x-init : goal.loop-x-init

@@ -1,10 +1,6 @@
 -- `blends::by_blocks` meets its contract: a turn reads some more pixels of the stretch, in one of two ways. Assumes nothing.
-use Prim.Native.Nat.{ℕ, ◌+◌, ◌-◌, ◌*◌, ◌≤◌, ◌<◌}
-use mathlib.Core.Path.{◌≡◌, sym, ◌∙◌}
-use native.Mathlib.Omega.{arith}
-use borrow.Author.Rules.{rules}
-use lib.ListN.{get_or}
-use Rattle.blends.proofs.Stretch.{StretchHeld, stretch_start, stretch_end, taken, taken_block}
+use Prim.Native.Nat.{◌+◌, ◌-◌}
+use Rattle.blends.proofs.Stretch.{StretchHeld, taken}
 use Rattle.blends.proofs.by_blocks.Given as goal
 
 abbrev pub invariant-loop-x : goal.invariant-loop-x

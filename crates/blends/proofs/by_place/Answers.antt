@@ -1,9 +1,8 @@
 -- `blends::by_place` meets its contract. Assumes nothing.
 use Prim.Native.Nat.{◌+◌, ◌-◌}
 use native.Mathlib.Omega.{arith}
-use borrow.Author.Rules.{rules}
 use lib.ListN.{length-set}
-use Rattle.blends.proofs.Stretch.{StretchHeld, stretch_start, stretch_end, taken, taken_turn}
+use Rattle.blends.proofs.Stretch.{stretch_start, stretch_end, taken_turn}
 use Rattle.blends.proofs.by_place.Goals as goal
 
 pub loop-x-init : goal.loop-x-init

@@ -1,9 +1,6 @@
 -- `blends::by_place` meets its contract. Assumes nothing.
 use Prim.Native.Nat.{◌+◌, ◌-◌}
-use native.Mathlib.Omega.{arith}
-use borrow.Author.Rules.{rules}
-use lib.ListN.{length-set}
-use Rattle.blends.proofs.Stretch.{StretchHeld, stretch_start, stretch_end, taken, taken_turn}
+use Rattle.blends.proofs.Stretch.{StretchHeld, taken}
 use Rattle.blends.proofs.by_place.Given as goal
 
 abbrev pub invariant-loop-x : goal.invariant-loop-x

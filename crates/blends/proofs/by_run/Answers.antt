@@ -1,8 +1,7 @@
 -- `blends::by_run` meets its contract: the places follow one another, so the three rows are the pixels at them. Assumes nothing.
-use Prim.Native.Nat.{ℕ, ◌+◌, ◌-◌, ◌*◌, ◌≤◌, ◌<◌}
+use Prim.Native.Nat.{ℕ, ◌+◌, ◌-◌, ◌<◌}
 use mathlib.Core.Path.{◌≡◌, sym, ap, ◌∙◌}
 use native.Mathlib.Omega.{arith}
-use borrow.Author.Rules.{rules}
 use lib.ListN.{get_or}
 use Rattle.blends.proofs.Runs.{run_is, run_rows}
 use Rattle.blends.proofs.by_run.Goals as goal

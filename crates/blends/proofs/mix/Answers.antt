@@ -1,7 +1,6 @@
 -- `blends::mix` meets its contract. Assumes nothing.
 use Prim.Native.Nat.{◌+◌, ◌*◌}
 use native.Mathlib.Omega.{arith}
-use borrow.Author.Rules.{rules}
 use Rattle.blends.proofs.Pixel.{mixed}
 use Rattle.blends.proofs.mix.Goals as goal
 

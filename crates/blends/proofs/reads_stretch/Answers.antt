@@ -2,7 +2,6 @@
 use mathlib.Core.Path.{◌≡◌, ap, ◌∙◌}
 use Prim.Native.Nat.{ℕ, ◌+◌, ◌-◌}
 use native.Mathlib.Omega.{arith}
-use borrow.Author.Rules.{rules}
 use Rattle.blends.specs.Reads.{three_rows}
 use Rattle.blends.proofs.Beside.{three_none}
 use Rattle.blends.proofs.Stretch.{taken}

@@ -1,7 +1,6 @@
 -- `blur::add_left` meets its contract. Assumes nothing.
 use mathlib.Core.Path.{◌∙◌, ap}
 use mathlib.Core.List.{List}
-use borrow.Author.Rules.{rules}
 use lib.Ieee.{Float}
 use Prim.Native.Nat.{◌+◌, ◌-◌}
 use Rattle.blur.specs.Pass.{added_of}

@@ -2,7 +2,6 @@
 use mathlib.Core.Path.{◌∙◌, ap}
 use mathlib.Core.List.{List}
 use Prim.Native.Nat.{◌+◌, ◌-◌}
-use borrow.Author.Rules.{rules}
 use lib.Ieee.{Float}
 use Rattle.blur.specs.Pass.{added_of}
 use Rattle.blur.proofs.Taps.{right_joined}

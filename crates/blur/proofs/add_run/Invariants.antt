@@ -1,13 +1,8 @@
 -- `blur::add_run` meets its contract. The loop's invariant: the first i numbers are added to. The measure is what is left of them. Assumes nothing.
-use mathlib.Core.Path.{◌≡◌, refl, ap}
-use Prim.Native.Nat.{ℕ, ◌+◌, ◌-◌, ◌≤◌, ◌<◌}
-use native.Mathlib.Omega.{arith}
-use borrow.Author.Rules.{rules}
-use lib.ListN.{length, get_or, length-set}
-use lib.Ieee.{Float, nan}
-use Rattle.floats.specs.F32.{◌⊗◌}
+use mathlib.Core.Path.{◌≡◌}
+use Prim.Native.Nat.{◌+◌, ◌-◌, ◌≤◌}
+use lib.ListN.{length}
 use Rattle.blur.specs.Pass.{added_of}
-use Rattle.blur.proofs.Taps.{added_none, added_before, added_more}
 use Rattle.blur.proofs.add_run.Given as goal
 
 abbrev pub invariant-loop-i : goal.invariant-loop-i

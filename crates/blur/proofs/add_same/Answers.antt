@@ -1,10 +1,9 @@
 -- `blur::add_same` meets its contract. The loop's invariant: the first i numbers are added to. The measure is what is left of them. Assumes nothing.
 use mathlib.Core.Path.{◌≡◌, refl}
-use Prim.Native.Nat.{◌-◌, ◌≤◌}
+use Prim.Native.Nat.{◌-◌}
 use native.Mathlib.Omega.{arith}
 use borrow.Author.Rules.{rules}
-use lib.ListN.{length, length-set}
-use Rattle.blur.specs.Pass.{added_of}
+use lib.ListN.{length-set}
 use Rattle.blur.proofs.Taps.{added_none, added_more}
 use Rattle.blur.proofs.add_same.Goals as goal
 

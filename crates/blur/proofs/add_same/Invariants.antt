@@ -1,11 +1,8 @@
 -- `blur::add_same` meets its contract. The loop's invariant: the first i numbers are added to. The measure is what is left of them. Assumes nothing.
-use mathlib.Core.Path.{◌≡◌, refl}
+use mathlib.Core.Path.{◌≡◌}
 use Prim.Native.Nat.{◌-◌, ◌≤◌}
-use native.Mathlib.Omega.{arith}
-use borrow.Author.Rules.{rules}
-use lib.ListN.{length, length-set}
+use lib.ListN.{length}
 use Rattle.blur.specs.Pass.{added_of}
-use Rattle.blur.proofs.Taps.{added_none, added_more}
 use Rattle.blur.proofs.add_same.Given as goal
 
 abbrev pub invariant-loop-i : goal.invariant-loop-i

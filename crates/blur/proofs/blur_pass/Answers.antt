@@ -7,7 +7,7 @@ use native.Mathlib.Omega.{arith}
 use borrow.Author.Rules.{rules}
 use lib.ListN.{length, take}
 use lib.Ieee.{Float}
-use Rattle.lists.specs.Lists.{tab, grid, put, set_image}
+use Rattle.lists.specs.Lists.{tab, put, set_image}
 use Rattle.lists.proofs.Fill.{rows_none, rows_more, take_rows, row_in}
 use Rattle.lists.proofs.Images.{image_zero}
 use Rattle.blur.specs.Pass.{taps_of, sweep_of}

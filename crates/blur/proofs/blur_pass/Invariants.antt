@@ -1,16 +1,9 @@
 -- `blur::blur_pass` meets its contract. The loop's invariant: the first y rows of the second image are the pass's. The measure is what is left of the rows. Assumes nothing.
-use mathlib.Core.Path.{◌≡◌, refl, ap, ◌∙◌}
-use mathlib.Core.List.{List}
-use Prim.Native.Nat.{◌+◌, ◌-◌, ◌*◌, ◌≤◌}
-use native.Mathlib.Nat.{one-mul}
-use native.Mathlib.Omega.{arith}
-use borrow.Author.Rules.{rules}
+use mathlib.Core.Path.{◌≡◌}
+use Prim.Native.Nat.{◌-◌, ◌*◌, ◌≤◌}
 use lib.ListN.{length, take}
-use lib.Ieee.{Float}
-use Rattle.lists.specs.Lists.{tab, grid, put, set_image}
-use Rattle.lists.proofs.Fill.{rows_none, rows_more, take_rows, row_in}
-use Rattle.lists.proofs.Images.{image_zero}
-use Rattle.blur.specs.Pass.{taps_of, sweep_of}
+use Rattle.lists.specs.Lists.{grid, put}
+use Rattle.blur.specs.Pass.{taps_of}
 use Rattle.blur.proofs.blur_pass.Given as goal
 
 abbrev pub invariant-loop-y : goal.invariant-loop-y

@@ -1,13 +1,8 @@
 -- `blur::blur_row` meets its contract. The loop's invariant: the row holds the first k taps. The measure is what is left of the taps. Assumes nothing.
-use mathlib.Core.Path.{◌≡◌, refl, ap, ◌∙◌}
-use mathlib.Core.List.{List}
-use Prim.Native.Nat.{◌+◌, ◌-◌, ◌*◌, ◌≤◌}
-use native.Mathlib.Omega.{arith}
-use borrow.Author.Rules.{rules}
-use lib.ListN.{length, get_or}
-use lib.Ieee.{Float, nan}
-use Rattle.blur.specs.Pass.{added_of, spot_of}
-use Rattle.blur.proofs.Taps.{row, taps_none, taps_more, taps_end}
+use mathlib.Core.Path.{◌≡◌}
+use Prim.Native.Nat.{◌-◌, ◌≤◌}
+use lib.ListN.{length}
+use Rattle.blur.proofs.Taps.{row}
 use Rattle.blur.proofs.blur_row.Given as goal
 
 abbrev pub invariant-loop-k : goal.invariant-loop-k

@@ -1,5 +1,4 @@
 -- `boundary::code` meets its contract. Assumes nothing.
-use borrow.Author.Rules.{rules}
 use Rattle.boundary.specs.Boundary.{code_of}
 use Rattle.boundary.proofs.code.Goals as goal
 

@@ -3,7 +3,6 @@ use Prim.Native.Nat.{◌*◌}
 use mathlib.Core.Path.{sym, ap, ◌∙◌}
 use native.Mathlib.Nat.{mul-le-mul}
 use borrow.Author.Tests.{lt-ltb, le-ltb, eq-eqb, ne_eqb}
-use borrow.Author.Rules.{rules}
 use lib.Dec.{lit≤}
 use Rattle.lists.proofs.Cases.{pick_true, pick_false}
 use Rattle.lists.proofs.Every.{sides_fit}

@@ -1,7 +1,6 @@
 -- `boundary::put_four` meets its contract. Assumes nothing.
 use mathlib.Core.List.{[], ◌∷◌}
 use native.Mathlib.Omega.{arith}
-use borrow.Author.Rules.{rules}
 use lib.ListN.{length-set}
 use Rattle.boundary.proofs.Front.{stored_front, short_front}
 use Rattle.boundary.proofs.put_four.Goals as goal

@@ -1,6 +1,5 @@
 -- `boundary::put_matrix` meets its contract. Assumes nothing.
 use native.Mathlib.Omega.{arith}
-use borrow.Author.Rules.{rules}
 use lib.ListN.{length-set}
 use Rattle.inverse.specs.Inverse.{entries_of}
 use Rattle.boundary.proofs.Front.{stored_front, short_front}

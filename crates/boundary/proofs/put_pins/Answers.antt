@@ -1,6 +1,5 @@
 -- `boundary::put_pins` meets its contract. Assumes nothing.
 use native.Mathlib.Omega.{arith}
-use borrow.Author.Rules.{rules}
 use lib.ListN.{length-set}
 use mir.Syntax.{w16}
 use mir.Facts.{to_z-of_z}

@@ -1,7 +1,6 @@
 -- `boundary::put_pose` meets its contract. Assumes nothing.
 use mathlib.Core.Path.{sym, ap, ◌∙◌}
 use mathlib.Core.List.{List}
-use borrow.Author.Rules.{rules}
 use lib.Ieee.{Float}
 use Rattle.pose.specs.Pose.{told_of}
 use Rattle.boundary.specs.Boundary.{fronted, pose_of}

@@ -1,6 +1,5 @@
 -- `checks::check` refuses a side above 4,096 first, then a zero side, then a wrong length, then what `settled` refuses. Assumes nothing.
 use mathlib.Core.Path.{sym, ◌∙◌}
-use borrow.Author.Rules.{rules}
 use borrow.Author.Tests.{lt-ltb, le-ltb, eq-eqb, ne_eqb}
 use Rattle.lists.proofs.Cases.{pick_true, pick_false}
 use Rattle.lists.proofs.Every.{sides_fit}

@@ -1,6 +1,5 @@
 -- `checks::limits` refuses an even filter first, then a long filter, then many passes, then short room. Assumes nothing.
 use mathlib.Core.Path.{sym, ◌∙◌}
-use borrow.Author.Rules.{rules}
 use borrow.Author.Tests.{lt-ltb, le-ltb, eq-eqb, ne_eqb}
 use Rattle.lists.proofs.Cases.{pick_true, pick_false}
 use Rattle.checks.specs.Checks.{limits_of}

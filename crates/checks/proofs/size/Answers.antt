@@ -1,6 +1,5 @@
 -- `checks::size` meets its contract. Assumes nothing.
 use native.Mathlib.Nat.{mul-le-mul}
-use borrow.Author.Rules.{rules}
 use Rattle.lists.proofs.Every.{sides_fit}
 use Rattle.checks.proofs.Past.{size_is}
 use Rattle.checks.proofs.size.Goals as goal

@@ -1,5 +1,5 @@
 -- `driver::capped` meets its contract: what `round` leaves is past one end of the range, or the cast gives it. Assumes nothing.
-use Rattle.std.proofs.Common.{◌≡◌, T, ℤ, sym, ◌∙◌, subst, arith, w16, w64, SFits, rules}
+use Rattle.std.proofs.Common.{◌≡◌, T, ℤ, sym, ◌∙◌, subst, arith, w16, w64, SFits}
 use lib.Ieee.{of_bits, neg}
 use mir.ValLaws.{to_z-of_z}
 use Rattle.middle.specs.Held.{capped_of}

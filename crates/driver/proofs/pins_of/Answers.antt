@@ -1,6 +1,5 @@
 -- `driver::pins_of` meets its contract. Assumes nothing.
-use Rattle.std.proofs.Common.{◌≡◌, ◌-◌, ◌≤◌, Bool, true, false, ◌&&◌, sym, ◌∙◌, arith, rules}
-use borrow.Author.Tests.{not-true, not-false}
+use Rattle.std.proofs.Common.{◌≡◌, ◌-◌, ◌≤◌, Bool, true, false, ◌&&◌, sym, ◌∙◌, arith}
 use Rattle.driver.specs.Pins.{}
 use Rattle.lists.specs.Premises.{is_side}
 use Rattle.driver.proofs.Sides.{side_bounds, no_frame, of_refusal, of_pose}

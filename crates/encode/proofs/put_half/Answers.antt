@@ -1,6 +1,5 @@
 -- `encode::put_half` stores two bytes. Assumes nothing.
 use native.Mathlib.Omega.{arith}
-use borrow.Author.Rules.{rules}
 use lib.ListN.{length-set}
 use Rattle.encode.specs.Bytes.{half_bytes}
 use Rattle.lists.proofs.Copy.{stored_is}

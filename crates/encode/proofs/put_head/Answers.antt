@@ -1,5 +1,4 @@
 -- `encode::put_head` puts the start, then both sides. The area of sides that fit 16 bits fits 32. Assumes nothing.
-use borrow.Author.Rules.{rules}
 use Prim.Native.Nat.{◌+◌, ◌*◌}
 use native.Mathlib.Omega.{arith}
 use mathlib.Core.Path.{ap, ◌∙◌}

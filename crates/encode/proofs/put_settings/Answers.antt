@@ -1,5 +1,4 @@
 -- `encode::put_settings` puts the start, then the four numbers. Assumes nothing.
-use borrow.Author.Rules.{rules}
 use native.Mathlib.Omega.{arith}
 use mathlib.Core.Path.{ap, ◌∙◌}
 use mathlib.Core.List.{◌++◌, append_assoc}

@@ -1,5 +1,4 @@
 -- `encode::put_start` puts the length, then the kind. Assumes nothing.
-use borrow.Author.Rules.{rules}
 use native.Mathlib.Omega.{arith}
 use Rattle.encode.specs.Bytes.{half_bytes, word_bytes, start_bytes}
 use Rattle.lists.proofs.Put.{then_put}

@@ -1,7 +1,6 @@
 -- `frames::add_gradient_x` meets its contract: the part lent from image 2 on comes back with its image 1 set. Assumes nothing.
 use Prim.Native.Nat.{◌*◌, ◌-◌}
 use native.Mathlib.Omega.{arith}
-use borrow.Author.Rules.{rules}
 use lib.ListN.{length}
 use Rattle.lists.proofs.Images.{step_back}
 use Rattle.gradients.specs.Gradients.{gradient_x}

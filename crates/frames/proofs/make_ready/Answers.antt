@@ -1,6 +1,5 @@
 -- `frames::make_ready` meets its contract: the four steps one after another. Assumes nothing.
 use native.Mathlib.Omega.{arith}
-use borrow.Author.Rules.{rules}
 use Rattle.frames.proofs.Ready.{is_ready}
 use Rattle.frames.proofs.make_ready.Goals as goal
 

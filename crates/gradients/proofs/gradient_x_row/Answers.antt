@@ -1,7 +1,6 @@
 -- `gradients::gradient_x_row` meets its contract: the runs of its first pixel, of those between and of its last make the row. Assumes nothing.
 use Prim.Native.Nat.{ℕ, ◌+◌, ◌-◌}
 use native.Mathlib.Omega.{arith}
-use borrow.Author.Rules.{rules}
 use Rattle.lists.proofs.Fill.{fill_none}
 use Rattle.gradients.specs.Gradients.{before_of, after_of}
 use Rattle.gradients.proofs.Rows.{run_on}

@@ -3,12 +3,11 @@ use Prim.Native.Nat.{◌+◌, ◌-◌, ◌*◌, ◌≤◌}
 use mathlib.Core.Path.{◌≡◌, refl}
 use native.Mathlib.Omega.{arith}
 use borrow.Author.Rules.{rules}
-use lib.ListN.{length}
-use Rattle.lists.specs.Lists.{grid, put, image, set_image}
+use Rattle.lists.specs.Lists.{set_image}
 use Rattle.lists.proofs.Fill.{rows_none, row_in}
 use Rattle.gradients.specs.Gradients.{before_of, after_of, gradient_y}
 use Rattle.lists.proofs.Every.{sides_fit}
-use Rattle.gradients.proofs.Rows.{half_of, row_more}
+use Rattle.gradients.proofs.Rows.{row_more}
 use Rattle.gradients.proofs.gradient_y.Goals as goal
 
 pub overflow_mul-n : goal.overflow_mul-n

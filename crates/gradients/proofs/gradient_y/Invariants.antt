@@ -1,14 +1,10 @@
 -- `gradients::gradient_y` meets its contract. The loop's invariant: the first y rows stand in the third image, and nothing else has changed. Assumes nothing.
 use Prim.Native.Nat.{◌+◌, ◌-◌, ◌*◌, ◌≤◌}
-use mathlib.Core.Path.{◌≡◌, refl}
-use native.Mathlib.Omega.{arith}
-use borrow.Author.Rules.{rules}
+use mathlib.Core.Path.{◌≡◌}
 use lib.ListN.{length}
-use Rattle.lists.specs.Lists.{grid, put, image, set_image}
-use Rattle.lists.proofs.Fill.{rows_none, row_in}
-use Rattle.gradients.specs.Gradients.{before_of, after_of, gradient_y}
-use Rattle.lists.proofs.Every.{sides_fit}
-use Rattle.gradients.proofs.Rows.{half_of, row_more}
+use Rattle.lists.specs.Lists.{grid, put, image}
+use Rattle.gradients.specs.Gradients.{before_of, after_of}
+use Rattle.gradients.proofs.Rows.{half_of}
 use Rattle.gradients.proofs.gradient_y.Given as goal
 
 abbrev pub invariant-loop-y : goal.invariant-loop-y

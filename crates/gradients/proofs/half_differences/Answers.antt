@@ -1,12 +1,11 @@
 -- `gradients::half_differences` meets its contract. The loop's invariant: the first k numbers of the run stand, and nothing else has changed. Assumes nothing.
-use Prim.Native.Nat.{◌-◌, ◌≤◌}
+use Prim.Native.Nat.{◌-◌}
 use mathlib.Core.Path.{◌≡◌, refl}
 use native.Mathlib.Omega.{arith}
 use borrow.Author.Rules.{rules}
-use lib.ListN.{length, length-set}
-use Rattle.lists.specs.Lists.{put}
+use lib.ListN.{length-set}
 use Rattle.lists.proofs.Fill.{fill_none}
-use Rattle.gradients.proofs.Rows.{run_of, run_more}
+use Rattle.gradients.proofs.Rows.{run_more}
 use Rattle.gradients.proofs.half_differences.Goals as goal
 
 pub loop-k-init : goal.loop-k-init

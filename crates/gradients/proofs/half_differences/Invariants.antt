@@ -1,12 +1,9 @@
 -- `gradients::half_differences` meets its contract. The loop's invariant: the first k numbers of the run stand, and nothing else has changed. Assumes nothing.
 use Prim.Native.Nat.{◌-◌, ◌≤◌}
-use mathlib.Core.Path.{◌≡◌, refl}
-use native.Mathlib.Omega.{arith}
-use borrow.Author.Rules.{rules}
-use lib.ListN.{length, length-set}
+use mathlib.Core.Path.{◌≡◌}
+use lib.ListN.{length}
 use Rattle.lists.specs.Lists.{put}
-use Rattle.lists.proofs.Fill.{fill_none}
-use Rattle.gradients.proofs.Rows.{run_of, run_more}
+use Rattle.gradients.proofs.Rows.{run_of}
 use Rattle.gradients.proofs.half_differences.Given as goal
 
 abbrev pub invariant-loop-k : goal.invariant-loop-k

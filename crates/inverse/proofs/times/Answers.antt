@@ -1,5 +1,4 @@
 -- `inverse::times` meets its contract. Assumes nothing.
-use borrow.Author.Rules.{rules}
 use Rattle.inverse.specs.Inverse.{times_of}
 use Rattle.inverse.proofs.times.Goals as goal
 

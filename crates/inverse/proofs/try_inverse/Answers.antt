@@ -1,5 +1,4 @@
 -- `inverse::try_inverse` meets its contract. Assumes nothing.
-use borrow.Author.Rules.{rules}
 use mathlib.Core.Path.{sym, ap, ◌∙◌}
 use Rattle.inverse.specs.declared.Inverse.{Inverse}
 use Rattle.lists.proofs.Cases.{pick_true, pick_false}

@@ -1,5 +1,4 @@
 -- `inverse2::times2` meets its contract. Assumes nothing.
-use borrow.Author.Rules.{rules}
 use Rattle.inverse2.specs.Inverse.{times2_of}
 use Rattle.inverse2.proofs.times2.Goals as goal
 

@@ -1,6 +1,5 @@
 -- `kernel::gaussian_kernel` meets its contract. Assumes nothing.
 use mathlib.Core.Path.{◌∙◌}
-use borrow.Author.Rules.{rules}
 use Rattle.kernel.proofs.Kernels.{kernel_is}
 use Rattle.kernel.proofs.gaussian_kernel.Goals as goal
 

@@ -1,6 +1,5 @@
 -- `kernel::spread` meets its contract. Assumes nothing.
 use mathlib.Core.Path.{ap}
-use borrow.Author.Rules.{rules}
 use lib.Ieee.{Float, binary32, of_bits}
 use Rattle.floats.specs.F32.{◌⊕◌, ◌⊖◌, ◌⊗◌, 1f, half, 2f}
 use Rattle.kernel.specs.Kernel.{sigma_of}

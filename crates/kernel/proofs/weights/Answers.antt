@@ -1,11 +1,10 @@
 -- `kernel::weights` meets its contract. The loop's invariant: the first i weights are stored and summed. The measure is what is left of them. Assumes nothing.
 use mathlib.Core.Path.{◌≡◌, refl, sym, ap, ◌∙◌}
-use Prim.Native.Nat.{◌-◌, ◌≤◌}
+use Prim.Native.Nat.{◌-◌}
 use native.Mathlib.Omega.{arith}
 use borrow.Author.Rules.{rules}
-use lib.ListN.{length, length-set}
+use lib.ListN.{length-set}
 use lib.Ieee.{Float}
-use Rattle.lists.specs.Lists.{tab, put}
 use Rattle.lists.proofs.Fill.{fill_none, front_more}
 use Rattle.floats.specs.F32.{◌⊕◌}
 use Rattle.floats.specs.Sums.{sum_to}

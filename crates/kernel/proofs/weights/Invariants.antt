@@ -1,15 +1,9 @@
 -- `kernel::weights` meets its contract. The loop's invariant: the first i weights are stored and summed. The measure is what is left of them. Assumes nothing.
-use mathlib.Core.Path.{◌≡◌, refl, sym, ap, ◌∙◌}
+use mathlib.Core.Path.{◌≡◌}
 use Prim.Native.Nat.{◌-◌, ◌≤◌}
-use native.Mathlib.Omega.{arith}
-use borrow.Author.Rules.{rules}
-use lib.ListN.{length, length-set}
-use lib.Ieee.{Float}
+use lib.ListN.{length}
 use Rattle.lists.specs.Lists.{tab, put}
-use Rattle.lists.proofs.Fill.{fill_none, front_more}
-use Rattle.floats.specs.F32.{◌⊕◌}
 use Rattle.floats.specs.Sums.{sum_to}
-use Rattle.floats.proofs.Sums.{to_none, to_more}
 use Rattle.kernel.specs.Kernel.{weight_of}
 use Rattle.kernel.proofs.weights.Given as goal
 

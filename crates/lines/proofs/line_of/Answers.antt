@@ -1,5 +1,4 @@
 -- `lines::line_of` meets its contract. Assumes nothing.
-use borrow.Author.Rules.{rules}
 use mir.Syntax.{w16}
 use mir.ValLaws.{to_z-of_z}
 use Rattle.lines.specs.Lines.{line_of}

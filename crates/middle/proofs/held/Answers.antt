@@ -10,7 +10,6 @@ use mir.Syntax.{w16}
 use mir.Val.{to_z, SFits}
 use mir.ValLaws.{to_z-of_z}
 use Rattle.middle.proofs.Nearest.{capped_far}
-use borrow.Author.Rules.{rules}
 use Rattle.middle.proofs.held.Goals as goal
 
 -- a number below 2 ^ 15 is its own pattern

@@ -2,7 +2,6 @@
 use mathlib.Core.Path.{◌∙◌}
 use Prim.Native.Nat.{◌^◌}
 use Rattle.middle.proofs.Digits.{by_higher, by_lower, lower_small}
-use borrow.Author.Rules.{rules}
 use Rattle.middle.proofs.less.Goals as goal
 
 pub returns-then-x-y : goal.returns-then-x-y

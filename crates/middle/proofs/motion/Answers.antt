@@ -13,7 +13,6 @@ use Rattle.floats.proofs.Within.{within_finite}
 use Rattle.floats.proofs.Patterns.{pattern_lt}
 use Rattle.middle.specs.Held.{capped_of}
 use Rattle.middle.proofs.Terms.{pattern_sign, far_motion, motion_is}
-use borrow.Author.Rules.{rules}
 use Rattle.middle.proofs.motion.Goals as goal
 
 pub float_to_bits-shift : goal.float_to_bits-shift

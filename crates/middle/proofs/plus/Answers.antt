@@ -1,7 +1,6 @@
 -- `middle::plus` meets its contract. Assumes nothing.
 use Prim.Native.Nat.{ℕ, ◌+◌, ◌/◌, ◌^◌, ◌≤◌, ◌<◌}
 use native.Mathlib.Omega.{arith}
-use borrow.Author.Rules.{rules}
 use Rattle.middle.proofs.plus.Goals as goal
 
 room : (a b m n l k : ℕ) → a + b < 2 ^ 60 → m < 2 ^ 60 → n < 2 ^ 60 → l < 2 ^ 60 → k < 2 ^ 60 → a + b + (m + n + (l + k) / 2 ^ 60) / 2 ^ 60 < 2 ^ 64

@@ -3,7 +3,6 @@ use mathlib.Core.Path.{sym, ap, ◌∙◌}
 use Prim.Native.Nat.{ℕ, ◌+◌, ◌/◌, ◌^◌, ◌≤◌, ◌<◌}
 use native.Mathlib.Omega.{arith}
 use Rattle.middle.proofs.Nearest.{by_top}
-use borrow.Author.Rules.{rules}
 use Rattle.middle.proofs.rounded.Goals as goal
 
 under : {n h m : ℕ} → n ≤ h → h < m → n < m

@@ -9,7 +9,6 @@ use mir.ValLaws.{to_z-of_z}
 use Rattle.middle.specs.Held.{capped_of}
 use Rattle.middle.specs.Wide.{wide_of}
 use Rattle.middle.proofs.Nearest.{scaled_back, scaled_ahead}
-use borrow.Author.Rules.{rules}
 use Rattle.middle.proofs.settled.Goals as goal
 
 pub rounded-requires : goal.rounded-requires

@@ -7,7 +7,6 @@ use lib.Dec.{leb}
 use lib.Ieee.{unlike}
 use Rattle.lists.specs.Marked.{pick}
 use Rattle.floats.specs.Units.{units_at}
-use borrow.Author.Rules.{rules}
 use Rattle.middle.proofs.share.Goals as goal
 
 same_sign : (s back : Bool) (u : ℕ) → beq s back ≡ true → pick (unlike s back) 0 u ≡ u

@@ -2,7 +2,6 @@
 use mathlib.Core.Path.{◌∙◌, ap₂}
 use Prim.Native.Nat.{◌+◌}
 use native.Mathlib.Omega.{arith}
-use borrow.Author.Rules.{rules}
 use Rattle.middle.proofs.shares.Goals as goal
 
 pub plus-requires : goal.plus-requires

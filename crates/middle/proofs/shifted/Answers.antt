@@ -4,7 +4,6 @@ use native.Mathlib.Nat.{lt_of_le_of_lt, mod-le, mod-lt, le_of_lt}
 use native.Mathlib.Omega.{arith}
 use lib.Dec.{lit<}
 use Rattle.middle.proofs.Digits.{from_low, from_mid, from_high, from_none, high_small, shifted_less}
-use borrow.Author.Rules.{rules}
 use Rattle.middle.proofs.shifted.Goals as goal
 
 pub returns-then-k-ge120 : goal.returns-then-k-ge120

@@ -5,7 +5,6 @@ use native.Mathlib.Nat.{lt_trans}
 use native.Mathlib.Omega.{arith}
 use lib.Dec.{lit<}
 use Rattle.middle.proofs.Digits.{product_small, sized_small, sized_normal}
-use borrow.Author.Rules.{rules}
 use Rattle.middle.proofs.sized.Goals as goal
 
 small : (b : ℕ) → b / 8388608 ≡ 0 → b < 2 ^ 24

@@ -5,7 +5,6 @@ use native.Mathlib.Nat.{le_trans, sub-le}
 use borrow.Author.Tests.{ltb-true, ltb-false}
 use Rattle.middle.specs.Wide.{lower_of, wide_of}
 use Rattle.middle.proofs.Digits.{lower_small, top_whole, top_borrow}
-use borrow.Author.Rules.{rules}
 use Rattle.middle.proofs.top.Goals as goal
 
 pub overflow_sub-result : goal.overflow_sub-result

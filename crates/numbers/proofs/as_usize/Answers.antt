@@ -1,5 +1,5 @@
 -- `numbers::as_usize` casts as Rust's `as` does: what the two tests leave is in the cast's range. Assumes nothing.
-use Rattle.std.proofs.Common.{T, sym, subst, rules}
+use Rattle.std.proofs.Common.{T, sym, subst}
 use lib.Ieee.{of_bits, neg}
 use Rattle.numbers.proofs.Whole.{cast_high, cast_low}
 use Rattle.numbers.proofs.as_usize.Goals as goal

@@ -1,6 +1,6 @@
 -- `numbers::floor` gives the largest whole number that is not above: below 2 ^ 23 by the whole part and what is left, and from there on
 -- the value itself. Assumes nothing.
-use Rattle.std.proofs.Common.{◌≡◌, ℕ, ◌+◌, ◌≤◌, T, ltb, pos, sym, ap, ◌∙◌, subst, le_trans, le_of_eq, arith, rules, ltb-false, ltb-true}
+use Rattle.std.proofs.Common.{◌≡◌, ℕ, ◌+◌, ◌≤◌, T, ltb, pos, sym, ap, ◌∙◌, subst, le_trans, le_of_eq, arith, ltb-false, ltb-true}
 use lib.Arith.{le-zero}
 use lib.Ieee.{Float, binary32, fits, lt, of_int, of_bits, neg, to_unsigned}
 use Rattle.floats.specs.Bound.{UpTo}

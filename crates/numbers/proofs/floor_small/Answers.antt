@@ -1,5 +1,5 @@
 -- `numbers::floor_small` gives the floor as a whole number: 2 ^ 23 added and taken off leaves it or the next, and the test tells which. Assumes nothing.
-use Rattle.std.proofs.Common.{T, sym, ap, ◌∙◌, subst, rules}
+use Rattle.std.proofs.Common.{T, sym, ap, ◌∙◌, subst}
 use lib.Ieee.{Float, binary32, fits}
 use Rattle.floats.specs.F32.{◌⊖◌}
 use Rattle.numbers.proofs.Small.{nearly, floor_less}

@@ -1,5 +1,5 @@
 -- `numbers::from_bits` reads every pattern: those above the infinity's are a NaN's. Assumes nothing.
-use Rattle.std.proofs.Common.{sym, rules}
+use Rattle.std.proofs.Common.{sym}
 use lib.Ieee.{of_bits, div}
 use Rattle.floats.proofs.Patterns.{nan_pattern, number_pattern}
 use Rattle.numbers.proofs.from_bits.Goals as goal

@@ -1,5 +1,5 @@
 -- `numbers::nearest` gives the whole part, or the next number where at least a half is left. Assumes nothing.
-use Rattle.std.proofs.Common.{◌≡◌, ℕ, ◌+◌, ◌≤◌, T, pos, sym, ap, ◌∙◌, subst, le_trans, le_of_eq, arith, rules}
+use Rattle.std.proofs.Common.{◌≡◌, ℕ, ◌+◌, ◌≤◌, T, pos, sym, ap, ◌∙◌, subst, le_trans, le_of_eq, arith}
 use lib.Ieee.{Float, binary32, of_int, of_bits, sub, lt}
 use Rattle.numbers.proofs.Whole.{part, half_test, cut, Near, near}
 use Rattle.numbers.proofs.nearest.Goals as goal

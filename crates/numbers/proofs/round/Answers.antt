@@ -1,6 +1,6 @@
 -- `numbers::round` gives the nearest whole number: below 2 ^ 23 that of the size, with the sign, and from there on the value itself.
 -- Assumes nothing.
-use Rattle.std.proofs.Common.{◌≡◌, ℕ, T, pos, sym, ap, ◌∙◌, subst, rules}
+use Rattle.std.proofs.Common.{◌≡◌, ℕ, T, pos, sym, ap, ◌∙◌, subst}
 use lib.Ieee.{Float, binary32, fits, of_int, of_bits, neg}
 use Rattle.floats.specs.Bound.{UpTo}
 use Rattle.numbers.specs.Numbers.{abs_of, nearest_of}

@@ -1,5 +1,5 @@
 -- `numbers::to_bits` writes the pattern of every value: only a NaN differs from itself. Assumes nothing.
-use Rattle.std.proofs.Common.{T, sym, ap, subst, rules}
+use Rattle.std.proofs.Common.{T, sym, ap, subst}
 use lib.Ieee.{binary32, to_bits}
 use lib.Ieee.Compare.{differs_from_itself}
 use Rattle.floats.proofs.Patterns.{no_nan}

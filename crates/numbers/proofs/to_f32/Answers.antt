@@ -1,5 +1,5 @@
 -- `numbers::to_f32` loses nothing up to 2 ^ 24. Assumes nothing.
-use Rattle.std.proofs.Common.{◌^◌, le→leb, rules}
+use Rattle.std.proofs.Common.{◌^◌, le→leb}
 use lib.Ieee.{in_float}
 use Rattle.numbers.proofs.to_f32.Goals as goal
 

@@ -2,9 +2,7 @@
 use Prim.Native.Nat.{◌-◌}
 use mathlib.Core.Path.{refl}
 use native.Mathlib.Omega.{arith}
-use borrow.Author.Rules.{rules}
-use lib.ListN.{length}
-use Rattle.options.proofs.Prefix.{Begun, begun_end, begun_short, begun_other, begun_more}
+use Rattle.options.proofs.Prefix.{begun_end, begun_short, begun_other, begun_more}
 use Rattle.options.proofs.begins.Goals as goal
 
 pub loop-i-init : goal.loop-i-init

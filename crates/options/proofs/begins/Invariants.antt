@@ -1,10 +1,7 @@
 -- `options::begins` compares byte after byte. Assumes nothing.
 use Prim.Native.Nat.{◌-◌}
-use mathlib.Core.Path.{refl}
-use native.Mathlib.Omega.{arith}
-use borrow.Author.Rules.{rules}
 use lib.ListN.{length}
-use Rattle.options.proofs.Prefix.{Begun, begun_end, begun_short, begun_other, begun_more}
+use Rattle.options.proofs.Prefix.{Begun}
 use Rattle.options.proofs.begins.Given as goal
 
 abbrev pub invariant-loop-i : goal.invariant-loop-i

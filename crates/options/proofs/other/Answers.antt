@@ -1,6 +1,5 @@
 -- `options::other` asks for each beginning in turn. Assumes nothing.
 use mathlib.Core.Path.{sym, ◌∙◌}
-use borrow.Author.Rules.{rules}
 use Rattle.lists.proofs.Cases.{pick_true, pick_false}
 use Rattle.options.specs.Words.{other_of}
 use Rattle.options.proofs.other.Goals as goal

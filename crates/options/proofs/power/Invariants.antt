@@ -1,9 +1,6 @@
 -- `options::power` multiplies k times; up to the seventh power all fits. Assumes nothing.
-use Prim.Native.Nat.{ℕ, ◌-◌, ◌^◌, ◌≤◌}
-use mathlib.Core.Path.{◌≡◌, ap, ◌∙◌}
-use native.Mathlib.Omega.{arith}
-use borrow.Author.Rules.{rules}
-use Rattle.options.proofs.Tens.{tens, ten_more}
+use Prim.Native.Nat.{◌-◌, ◌^◌, ◌≤◌}
+use mathlib.Core.Path.{◌≡◌}
 use Rattle.options.proofs.power.Given as goal
 
 abbrev pub invariant-loop-i : goal.invariant-loop-i

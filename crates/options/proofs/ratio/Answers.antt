@@ -1,7 +1,6 @@
 -- `options::ratio` asks both ranges; within them one division is right. Assumes nothing.
 use mathlib.Core.Path.{sym, ap, ◌∙◌}
 use native.Mathlib.Omega.{arith}
-use borrow.Author.Rules.{rules}
 use borrow.Author.Tests.{lt-leb, le-leb}
 use lib.Ieee.{binary32, to_bits}
 use Rattle.lists.proofs.Cases.{pick_true, pick_false}

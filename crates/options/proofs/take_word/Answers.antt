@@ -1,7 +1,6 @@
 -- `options::take_word` asks for each beginning in turn. Assumes nothing.
 use mathlib.Core.Path.{sym, ◌∙◌}
 use mathlib.Core.List.{[], ◌∷◌}
-use borrow.Author.Rules.{rules}
 use Rattle.lists.proofs.Cases.{pick_true, pick_false}
 use Rattle.options.specs.Words.{begins, word_of}
 use Rattle.options.proofs.Prefix.{begins_long}

@@ -1,6 +1,5 @@
 -- `options::whole` asks for a digit, for the end behind the digits, and for the range. Assumes nothing.
 use mathlib.Core.Path.{sym, ap, ◌∙◌}
-use borrow.Author.Rules.{rules}
 use borrow.Author.Tests.{eq-eqb, ne_eqb, lt-ltb, le-ltb, lt-leb, le-leb}
 use lib.Dec.{leb}
 use Rattle.lists.proofs.Cases.{pick_true, pick_false}

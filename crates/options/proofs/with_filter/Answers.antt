@@ -1,5 +1,4 @@
 -- `options::with_filter` changes one number. Assumes nothing.
-use borrow.Author.Rules.{rules}
 use Rattle.options.specs.Words.{with_filter}
 use Rattle.options.proofs.Values.{no_value, a_value}
 use Rattle.options.proofs.with_filter.Goals as goal

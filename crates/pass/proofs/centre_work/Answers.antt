@@ -1,5 +1,4 @@
 -- `pass::centre_work` meets its contract: the images 0, 3, 4 and 5 of the part from the image 5 on are 5, 8, 9 and 10 of the work. Assumes nothing.
-use borrow.Author.Rules.{rules}
 use Rattle.bits.specs.Words.{unpacked_of}
 use Rattle.pass.proofs.Parts.{centre_back}
 use Rattle.pass.proofs.centre_work.Goals as goal

@@ -1,7 +1,6 @@
 -- `pass::pass` meets its contract: too few marks, or what the rest of the pass says. Assumes nothing.
 use Prim.Native.Nat.{◌*◌}
 use native.Mathlib.Omega.{arith}
-use borrow.Author.Rules.{rules}
 use Rattle.pass.specs.Kept.{Kept, KeptMarks}
 use Rattle.pass.proofs.Stays.{kept_kept}
 use Rattle.warp.proofs.Marks.{front}

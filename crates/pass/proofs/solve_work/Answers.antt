@@ -1,5 +1,4 @@
 -- `pass::solve_work` meets its contract: the images 0, 1, 3, 4 and 5 of the part from the image 6 on are 6, 7, 9, 10 and 11 of the work. Assumes nothing.
-use borrow.Author.Rules.{rules}
 use Prim.Native.Nat.{◌*◌}
 use Rattle.bits.specs.Words.{unpacked_of}
 use Rattle.pass.proofs.Parts.{steep_back, solve_back}

@@ -1,5 +1,4 @@
 -- `pass::warp_work` meets its contract: the images 0 to 5 of the part from the image 2 on are 2 to 7 of the work. Assumes nothing.
-use borrow.Author.Rules.{rules}
 use Rattle.pass.proofs.Parts.{warp_back}
 use Rattle.pass.proofs.warp_work.Goals as goal
 

@@ -2,7 +2,6 @@
 use Prim.Native.Nat.{◌*◌}
 use native.Mathlib.Nat.{mul-le-mul}
 use native.Mathlib.Omega.{arith}
-use borrow.Author.Rules.{rules}
 use Rattle.bits.specs.Words.{unpacked_of}
 use Rattle.rows.proofs.Between.{rows_order, span_between}
 use Rattle.pass.specs.Kept.{Kept}

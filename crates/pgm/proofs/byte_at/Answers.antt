@@ -1,6 +1,5 @@
 -- `pgm::byte_at` reads a byte within the slice; past it the list has its default. Assumes nothing.
 use mathlib.Core.Path.{sym}
-use borrow.Author.Rules.{rules}
 use lib.ListN.{get_or-eq_default}
 use Rattle.pgm.proofs.byte_at.Goals as goal
 

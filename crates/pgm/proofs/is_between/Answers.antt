@@ -1,7 +1,6 @@
 -- `pgm::is_between` goes by whether a comment was open. Assumes nothing.
 use mathlib.Core.Path.{sym, ap, ◌∙◌}
 use mathlib.Core.Bool.{Bool}
-use borrow.Author.Rules.{rules}
 use borrow.Author.Tests.{eq-eqb, ne_eqb}
 use Rattle.pgm.specs.Pgm.{between}
 use Rattle.pgm.proofs.Tests.{or_yes, or_no}

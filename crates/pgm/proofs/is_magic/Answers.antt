@@ -1,8 +1,7 @@
 -- `pgm::is_magic` asks three bytes. Assumes nothing.
 use mathlib.Core.Path.{sym, ap, ◌∙◌}
 use mathlib.Core.Bool.{false}
-use borrow.Author.Rules.{rules}
-use borrow.Author.Tests.{eq-eqb, ne_eqb, not-true, not-false}
+use borrow.Author.Tests.{eq-eqb, ne_eqb}
 use Rattle.pgm.specs.Pgm.{between, kind, magic}
 use Rattle.pgm.proofs.Tests.{and_yes, and_no}
 use Rattle.pgm.proofs.is_magic.Goals as goal

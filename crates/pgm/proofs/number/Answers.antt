@@ -1,7 +1,5 @@
 -- `pgm::number` asks the byte behind the gap. Assumes nothing.
 use mathlib.Core.Path.{sym, ap, ◌∙◌}
-use borrow.Author.Rules.{rules}
-use borrow.Author.Tests.{not-true, not-false}
 use Rattle.lists.proofs.Cases.{pick_true, pick_false}
 use Rattle.scan.specs.Scan.{is_digit}
 use Rattle.pgm.specs.Pgm.{digits_from, number_at}

@@ -1,10 +1,8 @@
 -- `pgm::pixel` goes by the kind of the picture. Assumes nothing.
 use Prim.Native.Nat.{ℕ}
 use mathlib.Core.Path.{sym, ap, ◌∙◌}
-use borrow.Author.Rules.{rules}
 use borrow.Author.Tests.{lt-ltb, le-ltb}
 use Rattle.lists.proofs.Cases.{pick_true, pick_false}
-use Rattle.pgm.specs.Pgm.{kind}
 use Rattle.pgm.specs.declared.Found.TheVariants.{Number}
 use Rattle.pgm.specs.Frame.{pixel_at}
 use Prim.Native.Nat.{◌+◌}

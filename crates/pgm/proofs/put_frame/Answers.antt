@@ -1,6 +1,5 @@
 -- `pgm::put_frame` goes by what stands before the pixels. Assumes nothing.
 use mathlib.Core.Path.{sym, ap, ◌∙◌, subst}
-use borrow.Author.Rules.{rules}
 use lib.ListN.{length}
 use Rattle.lists.specs.Lists.{put}
 use Rattle.lists.proofs.Put.{put_none}

@@ -1,8 +1,7 @@
 -- `pgm::put_pixels` puts pixel after pixel. Assumes nothing.
 use native.Mathlib.Omega.{arith}
-use borrow.Author.Rules.{rules}
 use Prim.Native.Nat.{◌-◌}
-use Rattle.pgm.proofs.Raster.{Filled, filled_none, filled_end, filled_missing, filled_large, filled_more}
+use Rattle.pgm.proofs.Raster.{filled_none, filled_end, filled_missing, filled_large, filled_more}
 use Rattle.pgm.proofs.put_pixels.Goals as goal
 
 pub loop-i-init : goal.loop-i-init

@@ -3,7 +3,6 @@ use Prim.Native.Nat.{ℕ, ◌+◌, ◌*◌}
 use mathlib.Core.Path.{sym, ap, ◌∙◌}
 use mathlib.Core.List.{List}
 use native.Mathlib.Omega.{arith}
-use borrow.Author.Rules.{rules}
 use borrow.Author.Tests.{eq-eqb, ne_eqb, lt-ltb, le-ltb}
 use lib.ListN.{length}
 use Rattle.lists.specs.Lists.{put}
@@ -13,7 +12,6 @@ use Rattle.encode.proofs.Pieces.{area}
 use Rattle.pgm.specs.declared.Made.TheVariants.{Refused}
 use Rattle.pgm.specs.Frame.{gray_pixels_of, made_of, record_of}
 use Rattle.pgm.proofs.Record.{put_all}
-use Rattle.pgm.proofs.Right.{right}
 use Rattle.pgm.proofs.put_read.Goals as goal
 
 pub overflow_mul-n : goal.overflow_mul-n

@@ -1,7 +1,5 @@
 -- `pgm::ranges` asks the sides, then the largest gray. Assumes nothing.
 use mathlib.Core.Path.{sym, ◌∙◌}
-use borrow.Author.Rules.{rules}
-use borrow.Author.Tests.{not-true, not-false}
 use Rattle.lists.proofs.Cases.{pick_true, pick_false}
 use Rattle.pgm.specs.Pgm.{ranges_of}
 use Rattle.pgm.proofs.ranges.Goals as goal

@@ -1,9 +1,7 @@
 -- `pgm::read_header` reads three numbers behind the magic. Assumes nothing.
 use mathlib.Core.Path.{sym, ◌∙◌}
-use borrow.Author.Rules.{rules}
-use borrow.Author.Tests.{not-true, not-false}
 use Rattle.lists.proofs.Cases.{pick_true, pick_false}
-use Rattle.pgm.specs.Pgm.{magic, header_of}
+use Rattle.pgm.specs.Pgm.{header_of}
 use Rattle.pgm.proofs.Founds.{no_number, a_number}
 use Rattle.pgm.proofs.read_header.Goals as goal
 

@@ -1,13 +1,9 @@
 -- `pgm::skip` goes byte after byte. Assumes nothing.
 use Prim.Native.Nat.{◌+◌, ◌-◌}
-use mathlib.Core.Path.{refl, sym, ◌∙◌}
 use mathlib.Core.Bool.{false}
-use native.Mathlib.Omega.{arith}
-use borrow.Author.Rules.{rules}
-use borrow.Author.Tests.{not-true, not-false}
 use lib.ListN.{length, drop}
 use Rattle.pgm.specs.Pgm.{gap_of}
-use Rattle.pgm.proofs.Gap.{Skipped, gap_end, gap_stop, gap_more}
+use Rattle.pgm.proofs.Gap.{Skipped}
 use Rattle.pgm.proofs.skip.Given as goal
 
 abbrev pub invariant-loop-i : goal.invariant-loop-i

@@ -1,10 +1,9 @@
 -- `pgm::start` asks the kind, then the byte behind the header. White space there lies within the bytes, so the next index fits. Assumes nothing.
 use mathlib.Core.Path.{sym, ap, ◌∙◌}
 use native.Mathlib.Omega.{arith}
-use borrow.Author.Rules.{rules}
-use borrow.Author.Tests.{eq-eqb, ne_eqb, not-true, not-false}
+use borrow.Author.Tests.{eq-eqb, ne_eqb}
 use Rattle.lists.proofs.Cases.{pick_true, pick_false}
-use Rattle.pgm.specs.Pgm.{blank, kind, start_of}
+use Rattle.pgm.specs.Pgm.{blank, start_of}
 use Rattle.pgm.proofs.Tests.{blank_within}
 use Rattle.pgm.proofs.start.Goals as goal
 

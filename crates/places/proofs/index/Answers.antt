@@ -1,6 +1,5 @@
 -- `places::index` meets its contract: the signed number is the unsigned one, so nothing is lost on the way. Assumes nothing.
 use mathlib.Core.Path.{◌≡◌, ap, ◌∙◌}
-use borrow.Author.Rules.{rules}
 use lib.IntN.{pos, nat_abs}
 use lib.Ieee.{to_signed, to_unsigned}
 use lib.Ieee.Casts.{to_signed_in, to_unsigned-lt}

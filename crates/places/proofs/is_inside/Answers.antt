@@ -1,8 +1,6 @@
 -- `places::is_inside` meets its contract: the flag of each `&&` is the conjunction of the tests so far. Assumes nothing.
 use mathlib.Core.Path.{◌≡◌, ◌∙◌}
 use mathlib.Core.Bool.{◌&&◌}
-use mathlib.Core.Logic.{⊎_elim}
-use borrow.Author.Rules.{rules}
 use lib.Ieee.{le, lt}
 use Rattle.floats.specs.F32.{0f}
 use Rattle.places.specs.Point.{inside}

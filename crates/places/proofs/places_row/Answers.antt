@@ -2,9 +2,8 @@
 use Prim.Native.Nat.{◌-◌}
 use mathlib.Core.Path.{◌≡◌, refl}
 use native.Mathlib.Omega.{arith}
-use borrow.Author.Rules.{rules}
-use lib.ListN.{length, length-set}
-use Rattle.places.proofs.Places.{PlacesHeld, places_start, places_turn}
+use lib.ListN.{length-set}
+use Rattle.places.proofs.Places.{places_start, places_turn}
 use Rattle.places.proofs.places_row.Goals as goal
 
 pub loop-k-init : goal.loop-k-init

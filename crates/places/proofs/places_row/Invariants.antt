@@ -1,10 +1,8 @@
 -- `places::places_row` meets its contract. Assumes nothing.
 use Prim.Native.Nat.{◌-◌}
-use mathlib.Core.Path.{◌≡◌, refl}
-use native.Mathlib.Omega.{arith}
-use borrow.Author.Rules.{rules}
-use lib.ListN.{length, length-set}
-use Rattle.places.proofs.Places.{PlacesHeld, places_start, places_turn}
+use mathlib.Core.Path.{◌≡◌}
+use lib.ListN.{length}
+use Rattle.places.proofs.Places.{PlacesHeld}
 use Rattle.places.proofs.places_row.Given as goal
 
 abbrev pub invariant-loop-k : goal.invariant-loop-k

@@ -1,5 +1,4 @@
 -- `places::point_x` meets its contract. Assumes nothing.
-use borrow.Author.Rules.{rules}
 use Rattle.places.specs.Point.{sx_of}
 use Rattle.places.proofs.point_x.Goals as goal
 

@@ -1,5 +1,4 @@
 -- `places::point_y` meets its contract. Assumes nothing.
-use borrow.Author.Rules.{rules}
 use Rattle.places.specs.Point.{sy_of}
 use Rattle.places.proofs.point_y.Goals as goal
 

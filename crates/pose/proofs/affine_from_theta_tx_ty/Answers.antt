@@ -1,5 +1,4 @@
 -- `pose::affine_from_theta_tx_ty` meets its contract. Assumes nothing.
-use borrow.Author.Rules.{rules}
 use Rattle.pose.specs.Pose.{affine_from_theta_tx_ty}
 use Rattle.pose.proofs.affine_from_theta_tx_ty.Goals as goal
 

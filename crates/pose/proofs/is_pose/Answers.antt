@@ -1,5 +1,4 @@
 -- `pose::is_pose` meets its contract. Assumes nothing.
-use borrow.Author.Rules.{rules}
 use mathlib.Core.Path.{sym, ◌∙◌}
 use Rattle.pose.specs.Pose.{is_pose}
 use Rattle.pose.proofs.Tests.{last_of, third_fails, second_fails, first_fails}

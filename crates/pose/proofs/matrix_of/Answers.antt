@@ -1,5 +1,4 @@
 -- `pose::matrix_of` meets its contract. Assumes nothing.
-use borrow.Author.Rules.{rules}
 use mathlib.Core.Path.{sym, ap, ◌∙◌}
 use Rattle.pose.specs.Pose.{matrix_of}
 use Rattle.pose.proofs.matrix_of.Goals as goal

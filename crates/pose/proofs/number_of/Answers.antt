@@ -1,6 +1,5 @@
 -- `pose::number_of` meets its contract. Assumes nothing.
 use mathlib.Core.Path.{sym, ap}
-use borrow.Author.Rules.{rules}
 use Rattle.pose.specs.Pose.{number_of, told_of}
 use Rattle.pose.proofs.number_of.Goals as goal
 

@@ -1,5 +1,4 @@
 -- `pose::posed_matrix` meets its contract. Assumes nothing.
-use borrow.Author.Rules.{rules}
 use mathlib.Core.Path.{sym, ◌∙◌}
 use Rattle.lists.proofs.Cases.{pick_true, pick_false}
 use Rattle.pose.specs.Pose.{posed_matrix}

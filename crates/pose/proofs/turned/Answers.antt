@@ -1,6 +1,5 @@
 -- `pose::turned` meets its contract: the six entries of the map, and the last row. Assumes nothing.
 use mathlib.Core.Path.{ap}
-use borrow.Author.Rules.{rules}
 use Rattle.pose.specs.Pose.{affine_from_theta_tx_ty, affine_matrix}
 use Rattle.pose.specs.declared.Map.{Map}
 use Rattle.floats.specs.F32.{0f, 1f}

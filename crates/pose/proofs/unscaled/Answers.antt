@@ -1,7 +1,5 @@
 -- `pose::unscaled` meets its contract. Assumes nothing.
 use mathlib.Core.Path.{sym, ◌∙◌}
-use borrow.Author.Rules.{rules}
-use borrow.Author.Tests.{not-true, not-false}
 use Rattle.pose.proofs.Scaled.{first_endless, second_endless, stands}
 use Rattle.pose.proofs.unscaled.Goals as goal
 

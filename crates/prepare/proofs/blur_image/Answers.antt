@@ -1,7 +1,6 @@
 -- `prepare::blur_image` meets its contract: the images 0, 1 and 2 of the part from the image j on are j, j + 1 and j + 2. Assumes nothing.
 use Prim.Native.Nat.{◌*◌, ◌-◌}
 use native.Mathlib.Omega.{arith}
-use borrow.Author.Rules.{rules}
 use lib.ListN.{length}
 use Rattle.blur.specs.Blur.{rows_of, columns_of}
 use Rattle.prepare.proofs.Frames.{length_rows, length_columns}

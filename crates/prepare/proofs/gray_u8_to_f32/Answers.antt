@@ -1,10 +1,9 @@
 -- `prepare::gray_u8_to_f32` meets its contract. The loop's invariant: the first i bytes stand in `out` as f32, and nothing else has changed. Assumes nothing.
-use Prim.Native.Nat.{◌-◌, ◌≤◌}
+use Prim.Native.Nat.{◌-◌}
 use mathlib.Core.Path.{◌≡◌, refl}
 use native.Mathlib.Omega.{arith}
 use borrow.Author.Rules.{rules}
 use lib.ListN.{length, length-set}
-use Rattle.lists.specs.Lists.{put, tab}
 use Rattle.lists.proofs.Fill.{fill_none, front_more}
 use Rattle.prepare.specs.Prepared.{gray_of}
 use Rattle.prepare.proofs.Frames.{gray_at}

@@ -1,12 +1,8 @@
 -- `prepare::gray_u8_to_f32` meets its contract. The loop's invariant: the first i bytes stand in `out` as f32, and nothing else has changed. Assumes nothing.
 use Prim.Native.Nat.{◌-◌, ◌≤◌}
-use mathlib.Core.Path.{◌≡◌, refl}
-use native.Mathlib.Omega.{arith}
-use borrow.Author.Rules.{rules}
-use lib.ListN.{length, length-set}
+use mathlib.Core.Path.{◌≡◌}
+use lib.ListN.{length}
 use Rattle.lists.specs.Lists.{put, tab}
-use Rattle.lists.proofs.Fill.{fill_none, front_more}
-use Rattle.prepare.specs.Prepared.{gray_of}
 use Rattle.prepare.proofs.Frames.{gray_at}
 use Rattle.prepare.proofs.gray_u8_to_f32.Given as goal
 

@@ -1,7 +1,6 @@
 -- `prepare::load_image` meets its contract: a frame in the front of the part from the image j on is the image j. Assumes nothing.
 use Prim.Native.Nat.{◌*◌, ◌-◌}
 use native.Mathlib.Omega.{arith}
-use borrow.Author.Rules.{rules}
 use lib.ListN.{length}
 use Rattle.prepare.proofs.Frames.{length_scaled}
 use Rattle.prepare.proofs.Parts.{load_back}

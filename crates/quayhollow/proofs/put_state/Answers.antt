@@ -3,7 +3,6 @@ use mathlib.Core.Path.{sym, ◌∙◌}
 use mathlib.Core.List.{[], ◌∷◌}
 use native.Mathlib.Omega.{arith}
 use borrow.Author.Tests.{eq-eqb, ne_eqb}
-use borrow.Author.Rules.{rules}
 use lib.ListN.{length-set}
 use Rattle.lists.proofs.Cases.{pick_true, pick_false}
 use Rattle.quayhollow.specs.State.{state_after}

@@ -1,5 +1,4 @@
 -- `quayhollow::quayhollow_align` meets its contract: the settings are made, the alignment answers, and its answer is handed on. Assumes nothing.
-use borrow.Author.Rules.{rules}
 use Rattle.quayhollow.proofs.Codes.{handed_on, aligned_small}
 use Rattle.quayhollow.proofs.quayhollow_align.Goals as goal
 

@@ -1,6 +1,5 @@
 -- `quayhollow::quayhollow_estimate` meets its contract: the settings and the record are made, the aligner answers, and its answer is handed on. Assumes nothing.
 use mathlib.Core.Path.{ap}
-use borrow.Author.Rules.{rules}
 use Rattle.aligner.specs.declared.Reply.{Reply}
 use Rattle.quayhollow.proofs.Codes.{handed_on, estimate_small}
 use Rattle.quayhollow.proofs.State.{remembered_cfg}

@@ -1,6 +1,5 @@
 -- `quayhollow::quayhollow_matrix` meets its contract. Assumes nothing.
 use mathlib.Core.Path.{ap, ◌∙◌}
-use borrow.Author.Rules.{rules}
 use Rattle.inverse.specs.declared.Matrix3.{Matrix3}
 use Rattle.pose.specs.Pose.{matrix_of}
 use Rattle.inverse.specs.Inverse.{entries_of}

@@ -1,6 +1,5 @@
 -- `quayhollow::quayhollow_pins` meets its contract. Assumes nothing.
 use mathlib.Core.Path.{ap, ◌∙◌}
-use borrow.Author.Rules.{rules}
 use Rattle.pose.specs.declared.Answer.{Answer}
 use Rattle.driver.specs.Pins.{pins_of}
 use Rattle.driver.specs.declared.Pins.{Pins}

@@ -1,7 +1,6 @@
 -- `quayhollow::remembered` meets its contract. Assumes nothing.
 use mathlib.Core.Path.{sym, ◌∙◌}
 use borrow.Author.Tests.{lt-ltb, le-ltb}
-use borrow.Author.Rules.{rules}
 use Rattle.lists.proofs.Cases.{pick_true, pick_false}
 use Rattle.quayhollow.specs.State.{remembered_of}
 use Rattle.quayhollow.proofs.remembered.Goals as goal

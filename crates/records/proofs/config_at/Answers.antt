@@ -1,5 +1,4 @@
 -- `records::config_at` reads each field at its place. Assumes nothing.
-use borrow.Author.Rules.{rules}
 use Rattle.records.specs.Reading.{config_at}
 use Rattle.records.proofs.config_at.Goals as goal
 

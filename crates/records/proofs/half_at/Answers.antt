@@ -1,5 +1,4 @@
 -- `records::half_at` puts two bytes together, low byte first. Assumes nothing.
-use borrow.Author.Rules.{rules}
 use native.Mathlib.Omega.{arith}
 use Rattle.records.specs.Reading.{half_at}
 use Rattle.records.proofs.half_at.Goals as goal

@@ -1,6 +1,5 @@
 -- `records::next` reads the length once 4 bytes are at hand, and the kind once 6 are. Assumes nothing.
 use mathlib.Core.Path.{sym, ◌∙◌}
-use borrow.Author.Rules.{rules}
 use borrow.Author.Tests.{lt-ltb, le-ltb}
 use Rattle.lists.proofs.Cases.{pick_true, pick_false}
 use Rattle.records.specs.Reading.{next_of}

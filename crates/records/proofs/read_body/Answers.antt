@@ -1,6 +1,5 @@
 -- `records::read_body` goes by the kind. Assumes nothing.
 use mathlib.Core.Path.{sym, ◌∙◌}
-use borrow.Author.Rules.{rules}
 use borrow.Author.Tests.{eq-eqb, ne_eqb}
 use Rattle.lists.proofs.Cases.{pick_true, pick_false}
 use Rattle.records.specs.Reading.{body_of}

@@ -1,6 +1,5 @@
 -- `records::read_frame` tests the body's size against both limits, then the bytes at hand. Assumes nothing.
 use mathlib.Core.Path.{sym, ◌∙◌}
-use borrow.Author.Rules.{rules}
 use borrow.Author.Tests.{lt-ltb, le-ltb}
 use Rattle.lists.proofs.Cases.{pick_true, pick_false}
 use Rattle.records.specs.Reading.{frame_of}

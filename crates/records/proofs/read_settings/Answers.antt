@@ -1,6 +1,5 @@
 -- `records::read_settings` tests the body's size, then the bytes at hand. Assumes nothing.
 use mathlib.Core.Path.{sym, ap, ◌∙◌}
-use borrow.Author.Rules.{rules}
 use borrow.Author.Tests.{lt-ltb, le-ltb, eq-eqb, ne_eqb}
 use Rattle.lists.proofs.Cases.{pick_true, pick_false}
 use Rattle.records.specs.declared.Record.TheVariants.{Settings}

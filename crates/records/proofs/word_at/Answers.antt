@@ -1,5 +1,4 @@
 -- `records::word_at` puts two halves together, low half first. Assumes nothing.
-use borrow.Author.Rules.{rules}
 use native.Mathlib.Omega.{arith}
 use Rattle.records.specs.Reading.{word_at}
 use Rattle.records.proofs.word_at.Goals as goal

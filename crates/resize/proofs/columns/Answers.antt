@@ -1,9 +1,8 @@
 -- `resize::columns` stores the taps one after another, so that the fronts of both lists grow alike. Assumes nothing.
 use mathlib.Core.Path.{◌≡◌, refl, sym}
-use Prim.Native.Nat.{◌-◌, ◌≤◌}
+use Prim.Native.Nat.{◌-◌}
 use native.Mathlib.Omega.{arith}
-use lib.ListN.{length, take, length-set}
-use Rattle.lists.specs.Lists.{tab}
+use lib.ListN.{length-set}
 use Rattle.lists.proofs.Grow.{tab_zero}
 use Rattle.resize.specs.Resize.{tap_of}
 use borrow.Author.Rules.{rules}

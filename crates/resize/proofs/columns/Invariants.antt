@@ -1,13 +1,9 @@
 -- `resize::columns` stores the taps one after another, so that the fronts of both lists grow alike. Assumes nothing.
-use mathlib.Core.Path.{◌≡◌, refl, sym}
+use mathlib.Core.Path.{◌≡◌}
 use Prim.Native.Nat.{◌-◌, ◌≤◌}
-use native.Mathlib.Omega.{arith}
-use lib.ListN.{length, take, length-set}
+use lib.ListN.{length, take}
 use Rattle.lists.specs.Lists.{tab}
-use Rattle.lists.proofs.Grow.{tab_zero}
 use Rattle.resize.specs.Resize.{tap_of}
-use borrow.Author.Rules.{rules}
-use Rattle.lists.proofs.Fill.{front_turn}
 use Rattle.resize.proofs.columns.Given as goal
 
 abbrev pub invariant-loop-x : goal.invariant-loop-x

@@ -1,6 +1,5 @@
 -- `resize::gray` reads the byte inside the frame. Assumes nothing.
 use Rattle.resize.specs.Resize.{byte_of}
-use borrow.Author.Rules.{rules}
 use Rattle.resize.proofs.gray.Goals as goal
 
 pub returns : goal.returns

@@ -1,6 +1,5 @@
 -- `resize::place` is the place as it is defined: whole numbers up to 4,096 become f32 exactly. Assumes nothing.
 use Rattle.resize.specs.Resize.{place_of}
-use borrow.Author.Rules.{rules}
 use Rattle.resize.proofs.place.Goals as goal
 
 pub returns : goal.returns

@@ -1,5 +1,4 @@
 -- `resize::resize_bilinear` takes the columns' taps once, and then all rows. Assumes nothing.
-use borrow.Author.Rules.{rules}
 use Rattle.resize.proofs.resize_bilinear.Goals as goal
 
 pub resize_rows-requires : goal.resize_rows-requires

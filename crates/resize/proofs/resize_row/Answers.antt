@@ -1,10 +1,9 @@
 -- `resize::resize_row` puts pixel after pixel: the run at `at` grows by one a turn. Assumes nothing.
 use mathlib.Core.Path.{◌≡◌, refl}
-use Prim.Native.Nat.{ℕ, ◌-◌, ◌≤◌}
+use Prim.Native.Nat.{ℕ, ◌-◌}
 use native.Mathlib.Omega.{arith}
-use lib.ListN.{length, length-set}
+use lib.ListN.{length-set}
 use lib.Ieee.{Float}
-use Rattle.lists.specs.Lists.{tab, put}
 use Rattle.lists.proofs.Fill.{fill_none, fill_more}
 use Rattle.resize.specs.Resize.{tap_of, bilinear_of}
 use borrow.Author.Rules.{rules}

@@ -1,13 +1,9 @@
 -- `resize::resize_row` puts pixel after pixel: the run at `at` grows by one a turn. Assumes nothing.
-use mathlib.Core.Path.{◌≡◌, refl}
-use Prim.Native.Nat.{ℕ, ◌-◌, ◌≤◌}
-use native.Mathlib.Omega.{arith}
-use lib.ListN.{length, length-set}
-use lib.Ieee.{Float}
+use mathlib.Core.Path.{◌≡◌}
+use Prim.Native.Nat.{◌-◌, ◌≤◌}
+use lib.ListN.{length}
 use Rattle.lists.specs.Lists.{tab, put}
-use Rattle.lists.proofs.Fill.{fill_none, fill_more}
 use Rattle.resize.specs.Resize.{tap_of, bilinear_of}
-use borrow.Author.Rules.{rules}
 use Rattle.resize.proofs.resize_row.Given as goal
 
 abbrev pub invariant-loop-x : goal.invariant-loop-x

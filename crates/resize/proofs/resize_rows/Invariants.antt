@@ -1,14 +1,9 @@
 -- `resize::resize_rows` puts row after row at the front of `out`. Assumes nothing.
-use mathlib.Core.Path.{◌≡◌, refl, ◌∙◌}
-use Prim.Native.Nat.{ℕ, ◌+◌, ◌-◌, ◌*◌, ◌≤◌}
-use native.Mathlib.Nat.{le_trans, zero-add}
-use native.Mathlib.Omega.{arith}
+use mathlib.Core.Path.{◌≡◌}
+use Prim.Native.Nat.{◌-◌, ◌≤◌}
 use lib.ListN.{length}
-use lib.Ieee.{Float}
-use borrow.Author.Rules.{rules}
-use Rattle.lists.specs.Lists.{tab, grid, put}
-use Rattle.lists.proofs.Fill.{rows_none, rows_more, row_in}
-use Rattle.resize.specs.Resize.{tap_of, bilinear_of, resize_of}
+use Rattle.lists.specs.Lists.{grid, put}
+use Rattle.resize.specs.Resize.{tap_of, bilinear_of}
 use Rattle.resize.proofs.resize_rows.Given as goal
 
 abbrev pub invariant-loop-y : goal.invariant-loop-y

@@ -1,6 +1,5 @@
 -- `resize::sample` reads four bytes inside the frame and blends them as it is defined. Assumes nothing.
 use Rattle.resize.specs.Resize.{bilinear_of}
-use borrow.Author.Rules.{rules}
 use Rattle.resize.proofs.sample.Goals as goal
 
 pub returns : goal.returns

@@ -1,13 +1,7 @@
 -- `root::isqrt` meets its contract. The invariant: with k digits to come, some r has the root's digits from 2 ^ k up, so that the root is from r to below r + 2 ^ k;
 -- s is its square, p is r * 2 ^ k, and bit is a quarter of the square of 2 ^ k, which is the square of the next digit's weight. Assumes nothing.
-use mathlib.Core.Path.{◌≡◌, refl, sym, ap, ◌∙◌}
-use mathlib.Core.Logic.{⊎_elim}
-use Prim.Native.Nat.{ℕ, zero, suc, ◌+◌, ◌*◌, ◌/◌, ◌^◌, ◌≤◌, ◌<◌}
-use native.Mathlib.Nat.{le_trans, le_of_eq, lt_of_le_of_lt, two-pow-succ, add-mul, mul-add, mul_comm, mul-one, mul-pos}
-use native.Mathlib.Omega.{arith}
-use lib.Pow.{pow_pos}
-use lib.Dec.{lit<, lit≤}
-use Rattle.root.proofs.Squares.{sq_mono}
+use mathlib.Core.Path.{◌≡◌}
+use Prim.Native.Nat.{ℕ, ◌+◌, ◌*◌, ◌/◌, ◌^◌, ◌≤◌, ◌<◌}
 use Rattle.root.proofs.isqrt.Given as goal
 
 pub record Found (n s p bit k : ℕ) : Type 0 where

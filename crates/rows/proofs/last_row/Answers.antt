@@ -1,8 +1,7 @@
 -- `rows::last_row` meets its contract. The loop's invariant: the rows below y hold no mark. Assumes nothing.
-use Prim.Native.Nat.{ℕ, ◌+◌, ◌-◌, ◌*◌, ◌≤◌, ◌<◌}
+use Prim.Native.Nat.{ℕ, ◌+◌, ◌-◌, ◌*◌}
 use mathlib.Core.Path.{◌≡◌, sym, ap, ◌∙◌}
 use native.Mathlib.Omega.{arith}
-use borrow.Author.Rules.{rules}
 use Rattle.lists.proofs.Fill.{row_in}
 use Rattle.bits.specs.Words.{unpacked_of}
 use Rattle.rows.specs.Rows.{row_marked, marked_rows_of}

@@ -1,12 +1,8 @@
 -- `rows::last_row` meets its contract. The loop's invariant: the rows below y hold no mark. Assumes nothing.
-use Prim.Native.Nat.{ℕ, ◌+◌, ◌-◌, ◌*◌, ◌≤◌, ◌<◌}
-use mathlib.Core.Path.{◌≡◌, sym, ap, ◌∙◌}
-use native.Mathlib.Omega.{arith}
-use borrow.Author.Rules.{rules}
-use Rattle.lists.proofs.Fill.{row_in}
+use Prim.Native.Nat.{◌+◌, ◌-◌, ◌*◌, ◌≤◌, ◌<◌}
+use mathlib.Core.Path.{◌≡◌}
 use Rattle.bits.specs.Words.{unpacked_of}
-use Rattle.rows.specs.Rows.{row_marked, marked_rows_of}
-use Rattle.rows.proofs.Turns.{rows_passed, rows_first, rows_last}
+use Rattle.rows.specs.Rows.{marked_rows_of}
 use Rattle.rows.proofs.last_row.Given as goal
 
 abbrev pub invariant-loop-y : goal.invariant-loop-y

@@ -1,12 +1,10 @@
 -- `rows::marked_rows` meets its contract. The loop's invariant: no row above y holds a mark. Assumes nothing.
-use Prim.Native.Nat.{ℕ, ◌+◌, ◌-◌, ◌*◌, ◌≤◌, ◌<◌}
-use mathlib.Core.Path.{◌≡◌, sym, ap, ◌∙◌}
+use Prim.Native.Nat.{◌-◌, ◌*◌, ◌<◌}
+use mathlib.Core.Path.{◌≡◌, sym, ◌∙◌}
 use native.Mathlib.Omega.{arith}
-use borrow.Author.Rules.{rules}
 use Rattle.lists.proofs.Fill.{row_in}
 use Rattle.bits.specs.Words.{unpacked_of}
-use Rattle.rows.specs.Rows.{row_marked, marked_rows_of}
-use Rattle.rows.specs.declared.MarkedRows.TheVariants.{Bare}
+use Rattle.rows.specs.Rows.{row_marked}
 use Rattle.rows.proofs.Turns.{rows_start, rows_passed}
 use Rattle.rows.proofs.marked_rows.Goals as goal
 

@@ -5,7 +5,6 @@ use mir.Syntax.{w64}
 use mir.Val.{Fits}
 use native.Mathlib.Nat.{mul-le-mul}
 use native.Mathlib.Omega.{arith}
-use borrow.Author.Rules.{rules}
 use Rattle.bits.specs.declared.Stretch.{Stretch}
 use Rattle.rows.specs.Between.{pixels_of}
 use Rattle.rows.proofs.pixels.Goals as goal

@@ -1,17 +1,12 @@
 -- `runs::run` meets its contract: at the loop's head k passes are done, the run is going on, and what passes keep is kept. Assumes nothing.
 use Prim.Native.Nat.{◌+◌, ◌*◌, ◌≤◌, ◌-◌}
-use mathlib.Core.Path.{◌≡◌, sym, ap, ◌∙◌}
+use mathlib.Core.Path.{sym, ap, ◌∙◌}
 use native.Mathlib.Omega.{arith}
-use borrow.Author.Rules.{rules}
 use lib.Dec.{lit≤}
 use lib.Ieee.{of_bits}
-use Rattle.lists.specs.Lists.{image}
-use Rattle.floats.specs.Bound.{Within}
-use Rattle.pass.specs.Pass.{pass_of}
-use Rattle.pass.specs.Kept.{Kept, KeptMarks}
 use Rattle.pass.proofs.Stays.{kept_kept}
 use Rattle.pose.specs.declared.Answer.{Answer}
-use Rattle.runs.specs.Runs.{after, going, start}
+use Rattle.runs.specs.Runs.{start}
 use Rattle.runs.proofs.Moves.{move_within, pass_kept}
 use Rattle.runs.proofs.Stays.{kept_none, marks_none, marks_kept}
 use Rattle.runs.proofs.Ends.{started, passed, moving, refusing, stopping}

@@ -1,12 +1,7 @@
 -- `scan::digits_at` reads digit after digit. Assumes nothing.
-use Prim.Native.Nat.{◌-◌}
 use mathlib.Core.Path.{sym, ◌∙◌}
 use native.Mathlib.Omega.{arith}
-use lib.ListN.{length}
-use Rattle.scan.specs.Scan.{is_digit}
-use Rattle.scan.proofs.Steps.{digit_low, Read, read_none, read_end, read_stop, read_more}
-use borrow.Author.Rules.{rules}
-use borrow.Author.Tests.{not-true, not-false}
+use Rattle.scan.proofs.Steps.{digit_low, read_none, read_end, read_stop, read_more}
 use Rattle.scan.proofs.digits_at.Goals as goal
 
 pub loop-next-init : goal.loop-next-init

@@ -1,5 +1,5 @@
 -- `series::divisor` meets its contract. Assumes nothing.
-use Rattle.std.proofs.Common.{ℕ, ◌*◌, ◌^◌, ◌<◌, ◌≤◌, sym, ap, subst, lt_of_le_of_lt, mul-le-mul, arith, lit<, rules}
+use Rattle.std.proofs.Common.{ℕ, ◌*◌, ◌^◌, ◌<◌, ◌≤◌, sym, ap, subst, lt_of_le_of_lt, mul-le-mul, arith, lit<}
 use Rattle.series.specs.Series.{divisor_of, lowest_of}
 use Rattle.series.specs.declared.Series.{Series}
 use Rattle.series.proofs.divisor.Goals as goal

@@ -1,5 +1,5 @@
 -- `series::exp_neg` meets its contract. Assumes nothing.
-use Rattle.std.proofs.Common.{ℕ, ◌^◌, false, ap, ◌∙◌, rules}
+use Rattle.std.proofs.Common.{ℕ, ◌^◌, false, ap, ◌∙◌}
 use lib.Ieee.{binary32, round}
 use Rattle.series.specs.Recurrence.{steps_of}
 use Rattle.series.specs.Series.{divisor_of, squared_of, exp_neg_of}

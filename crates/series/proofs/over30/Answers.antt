@@ -1,5 +1,5 @@
 -- `series::over30` meets its contract. Assumes nothing.
-use Rattle.std.proofs.Common.{false, negsuc, ap, ◌∙◌, le_of_lt, rules}
+use Rattle.std.proofs.Common.{false, negsuc, ap, ◌∙◌, le_of_lt}
 use lib.Ieee.{Float, fin, binary32, mul, of_bits}
 use Rattle.series.proofs.Scale.{scaled_is}
 use Rattle.series.proofs.over30.Goals as goal

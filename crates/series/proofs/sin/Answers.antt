@@ -1,5 +1,5 @@
 -- `series::sin` meets its contract. Assumes nothing.
-use Rattle.std.proofs.Common.{ℕ, ◌^◌, false, ap, ◌∙◌, rules}
+use Rattle.std.proofs.Common.{ℕ, ◌^◌, false, ap, ◌∙◌}
 use lib.Ieee.{Float, binary32, mul, round}
 use Rattle.series.specs.Recurrence.{steps_of}
 use Rattle.series.specs.Series.{divisor_of, sin_of}

@@ -1,5 +1,5 @@
 -- `series::square_of` meets its contract. Assumes nothing.
-use Rattle.std.proofs.Common.{ℕ, ◌+◌, ◌%◌, ◌^◌, ◌≤◌, sym, subst, lt_of_le_of_lt, mul-le-mul, arith, lit<, lit≤, rules}
+use Rattle.std.proofs.Common.{ℕ, ◌+◌, ◌%◌, ◌^◌, ◌≤◌, sym, subst, lt_of_le_of_lt, mul-le-mul, arith, lit<, lit≤}
 use Rattle.series.proofs.Square.{square_none, square_normal, square_le}
 use Rattle.series.proofs.square_of.Goals as goal
 

@@ -1,5 +1,5 @@
 -- `series::step` meets its contract. Assumes nothing.
-use Rattle.std.proofs.Common.{lt_of_le_of_lt, mul-le-mul, lit<, rules}
+use Rattle.std.proofs.Common.{lt_of_le_of_lt, mul-le-mul, lit<}
 use Rattle.series.proofs.Recurrence.{taken_le}
 use Rattle.series.proofs.step.Goals as goal
 

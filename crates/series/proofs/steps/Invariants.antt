@@ -1,8 +1,7 @@
 -- `series::steps` meets its contract. The loop's invariant: u is what the first i steps give. The measure is what is left of n. Assumes nothing.
-use Rattle.std.proofs.Common.{◌≡◌, ℕ, ◌-◌, ◌≤◌, sym, refl, ap, ◌∙◌, le_trans, le_of_eq, add-one, arith, rules}
-use Rattle.series.specs.Recurrence.{u_next, steps_of}
-use Rattle.series.specs.Series.{divisor_of, lowest_of}
-use Rattle.series.proofs.Recurrence.{steps_le, last_pos, divisor_pos, divisor_le, limit_le, within_divisor}
+use Rattle.std.proofs.Common.{◌≡◌, ◌-◌, ◌≤◌}
+use Rattle.series.specs.Recurrence.{steps_of}
+use Rattle.series.specs.Series.{divisor_of}
 use Rattle.series.proofs.steps.Given as goal
 
 abbrev pub invariant-loop-i : goal.invariant-loop-i

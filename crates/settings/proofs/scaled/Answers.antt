@@ -1,6 +1,5 @@
 -- `settings::scaled` is the side times the edge over the longer side, from 0 to 4,096. Assumes nothing.
 use mathlib.Core.Path.{sym, ap₂, subst}
-use borrow.Author.Rules.{rules}
 use lib.Ieee.{Float}
 use Rattle.floats.specs.Bound.{UpTo}
 use Rattle.floats.specs.F32.{◌⊗◌, ◌⊘◌}

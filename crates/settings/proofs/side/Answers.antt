@@ -3,7 +3,6 @@ use mathlib.Core.Path.{◌≡◌, ap, ◌∙◌}
 use Prim.Native.Nat.{◌≤◌}
 use native.Mathlib.Nat.{le_trans, le_of_eq}
 use native.Mathlib.Omega.{arith}
-use borrow.Author.Rules.{rules}
 use lib.Ieee.{to_unsigned}
 use Rattle.numbers.specs.Numbers.{round_of}
 use Rattle.settings.specs.Sides.{scaled_side_of, side_of}

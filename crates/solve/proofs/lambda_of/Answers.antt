@@ -1,7 +1,5 @@
 -- `solve::lambda_of` meets its contract. Assumes nothing.
 use mathlib.Core.Path.{sym, ◌∙◌}
-use borrow.Author.Rules.{rules}
-use borrow.Author.Tests.{not-true, not-false}
 use Rattle.solve.proofs.Ends.{not_above, divisor_endless, ratio_endless, ratio_stands}
 use Rattle.solve.proofs.lambda_of.Goals as goal
 

@@ -1,6 +1,5 @@
 -- `solve::moved` meets its contract. Assumes nothing.
 use mathlib.Core.Path.{sym, ◌∙◌}
-use borrow.Author.Rules.{rules}
 use Rattle.lists.proofs.Cases.{pick_true, pick_false}
 use Rattle.solve.specs.Solve.{moved_of}
 use Rattle.solve.proofs.moved.Goals as goal

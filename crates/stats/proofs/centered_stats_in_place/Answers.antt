@@ -1,12 +1,11 @@
 -- `stats::centered_stats_in_place` meets its contract. The loop's invariant: only the images 4 and 5 have changed, there the marked places below i hold the centred numbers, and
 -- the three sums are those over these places. Assumes nothing.
-use Prim.Native.Nat.{◌-◌, ◌≤◌}
+use Prim.Native.Nat.{◌-◌}
 use mathlib.Core.Path.{◌≡◌, ◌∙◌}
 use native.Mathlib.Omega.{arith}
-use borrow.Author.Rules.{rules}
 use Rattle.bits.proofs.Stretches.{stretch_further}
 use Rattle.stats.proofs.Filling.{filled}
-use Rattle.stats.proofs.Centring.{CentredTo, three_of, centred_none, three_none, centred_all, three_all, centred_turn, three_turn, centred_end}
+use Rattle.stats.proofs.Centring.{centred_none, three_none, centred_all, three_all, centred_turn, three_turn, centred_end}
 use Rattle.stats.proofs.centered_stats_in_place.Goals as goal
 
 pub loop-i-init : goal.loop-i-init

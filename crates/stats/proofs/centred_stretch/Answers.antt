@@ -1,13 +1,11 @@
 -- `stats::centred_stretch` meets its contract. The loop's invariant: the places below i of the stretch hold the centred numbers, nothing else has changed, and the three
 -- sums are those of these places, added to what was before. Assumes nothing.
-use Prim.Native.Nat.{◌-◌, ◌≤◌, ◌<◌}
+use Prim.Native.Nat.{◌-◌, ◌<◌}
 use mathlib.Core.Path.{◌≡◌, refl}
 use native.Mathlib.Omega.{arith}
-use borrow.Author.Rules.{rules}
-use lib.ListN.{length, length-set}
-use Rattle.lists.specs.Marked.{over_range}
+use lib.ListN.{length-set}
 use Rattle.lists.proofs.Fold.{range_none}
-use Rattle.stats.proofs.Filling.{add_three, filled, filled_none, filled_more, three_more}
+use Rattle.stats.proofs.Filling.{filled, filled_none, filled_more, three_more}
 use Rattle.stats.proofs.centred_stretch.Goals as goal
 
 pub loop-i-init : goal.loop-i-init

@@ -1,13 +1,10 @@
 -- `stats::centred_stretch` meets its contract. The loop's invariant: the places below i of the stretch hold the centred numbers, nothing else has changed, and the three
 -- sums are those of these places, added to what was before. Assumes nothing.
-use Prim.Native.Nat.{◌-◌, ◌≤◌, ◌<◌}
-use mathlib.Core.Path.{◌≡◌, refl}
-use native.Mathlib.Omega.{arith}
-use borrow.Author.Rules.{rules}
-use lib.ListN.{length, length-set}
+use Prim.Native.Nat.{◌-◌, ◌≤◌}
+use mathlib.Core.Path.{◌≡◌}
+use lib.ListN.{length}
 use Rattle.lists.specs.Marked.{over_range}
-use Rattle.lists.proofs.Fold.{range_none}
-use Rattle.stats.proofs.Filling.{add_three, filled, filled_none, filled_more, three_more}
+use Rattle.stats.proofs.Filling.{add_three, filled}
 use Rattle.stats.proofs.centred_stretch.Given as goal
 
 abbrev pub invariant-loop-i : goal.invariant-loop-i

@@ -1,12 +1,7 @@
 -- `stats::means_over_mask` meets its contract. The loop's invariant: the two sums are those over the marked places below i. Assumes nothing.
 use Prim.Native.Nat.{◌≤◌, ◌-◌}
-use mathlib.Core.Path.{◌≡◌, ◌∙◌}
-use native.Mathlib.Omega.{arith}
-use borrow.Author.Rules.{rules}
-use Rattle.marks.proofs.Count.{count_le}
-use Rattle.bits.specs.Words.{unpacked_of}
-use Rattle.bits.proofs.Stretches.{stretch_further}
-use Rattle.stats.proofs.Averages.{both_of, both_none, both_all, both_turn, means_of}
+use mathlib.Core.Path.{◌≡◌}
+use Rattle.stats.proofs.Averages.{both_of}
 use Rattle.stats.proofs.means_over_mask.Given as goal
 
 abbrev pub invariant-loop-i : goal.invariant-loop-i

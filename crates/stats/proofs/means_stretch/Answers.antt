@@ -1,13 +1,8 @@
 -- `stats::means_stretch` meets its contract. The loop's invariant: the two sums are those of the stretch's places below i, added to what was before. Assumes nothing.
-use Prim.Native.Nat.{◌+◌, ◌-◌, ◌*◌, ◌≤◌}
+use Prim.Native.Nat.{◌-◌}
 use mathlib.Core.Path.{◌≡◌}
 use native.Mathlib.Omega.{arith}
-use borrow.Author.Rules.{rules}
-use lib.ListN.{get_or}
-use lib.Ieee.{nan}
-use Rattle.lists.specs.Marked.{over_range}
 use Rattle.lists.proofs.Fold.{range_none, range_turn}
-use Rattle.floats.specs.F32.{◌⊕◌}
 use Rattle.stats.proofs.means_stretch.Goals as goal
 
 pub loop-i-init : goal.loop-i-init

@@ -1,6 +1,5 @@
 -- `stream::advance` meets its contract, by what is read over or by the record that stands at the start of the bytes. Assumes nothing.
 use mathlib.Core.Path.{◌≡◌, refl, subst}
-use borrow.Author.Rules.{rules}
 use borrow.Author.Tests.{eq-eqb, ne_eqb}
 use Rattle.records.specs.Reading.{next_of}
 use Rattle.records.specs.declared.Record.TheVariants.{More, Settings, Frame, Large, Other, Broken}

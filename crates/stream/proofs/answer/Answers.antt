@@ -2,7 +2,6 @@
 use Prim.Native.Nat.{◌+◌, ◌-◌}
 use mathlib.Core.Path.{◌≡◌}
 use native.Mathlib.Omega.{arith}
-use borrow.Author.Rules.{rules}
 use Rattle.stream.specs.Stream.{act_of}
 use Rattle.stream.specs.Memory.{at_frame, store_by, work_by, marks_by}
 use Rattle.stream.proofs.answer.Goals as goal

@@ -1,5 +1,4 @@
 -- `stream::fresh` meets its contract. Assumes nothing.
-use borrow.Author.Rules.{rules}
 use Rattle.stream.proofs.fresh.Goals as goal
 
 pub returns : goal.returns

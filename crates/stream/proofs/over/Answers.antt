@@ -1,6 +1,5 @@
 -- `stream::over` meets its contract. Assumes nothing.
 use mathlib.Core.Path.{sym, ◌∙◌}
-use borrow.Author.Rules.{rules}
 use Rattle.stream.proofs.ReadOver.{over_none, over_part, over_large, over_other}
 use Rattle.stream.proofs.over.Goals as goal
 

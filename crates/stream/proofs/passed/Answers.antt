@@ -1,5 +1,4 @@
 -- `stream::passed` meets its contract. Assumes nothing.
-use borrow.Author.Rules.{rules}
 use Rattle.stream.specs.Stream.{passed_of}
 use Rattle.stream.proofs.passed.Goals as goal
 

@@ -2,10 +2,8 @@
 use Prim.Native.Nat.{ℕ, ◌+◌, ◌-◌, ◌*◌, ◌^◌, ◌≤◌, ◌<◌}
 use mathlib.Core.Path.{◌≡◌, refl, ap, ◌∙◌}
 use native.Mathlib.Omega.{arith}
-use borrow.Author.Rules.{rules}
 use lib.Ieee.{nan}
 use lib.ListN.{length, get_or}
-use Rattle.sums.specs.Fours.{four_in, fours_of}
 use Rattle.sums.proofs.Fours.{fours_none, fours_turn, more_put, ones_all, ones_turn, ones_left, ones_over}
 use Rattle.sums.proofs.add_spread.Goals as goal
 

@@ -1,12 +1,7 @@
 -- `sums::add_spread` meets its contract. The loop's invariant: k pixels are added to the sixteen sums that were read, and `left` has a one for each of the others. Assumes nothing.
-use Prim.Native.Nat.{ℕ, ◌+◌, ◌-◌, ◌*◌, ◌^◌, ◌≤◌, ◌<◌}
-use mathlib.Core.Path.{◌≡◌, refl, ap, ◌∙◌}
-use native.Mathlib.Omega.{arith}
-use borrow.Author.Rules.{rules}
-use lib.Ieee.{nan}
-use lib.ListN.{length, get_or}
+use Prim.Native.Nat.{◌+◌, ◌-◌, ◌*◌, ◌^◌, ◌≤◌}
+use mathlib.Core.Path.{◌≡◌}
 use Rattle.sums.specs.Fours.{four_in, fours_of}
-use Rattle.sums.proofs.Fours.{fours_none, fours_turn, more_put, ones_all, ones_turn, ones_left, ones_over}
 use Rattle.sums.proofs.add_spread.Given as goal
 
 abbrev pub invariant-loop-left : goal.invariant-loop-left

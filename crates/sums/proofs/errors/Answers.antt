@@ -1,8 +1,7 @@
 -- `sums::errors` meets its contract. The loop's invariant: the three sums are those over the marked places below i. A turn goes through a stretch. Assumes nothing.
-use Prim.Native.Nat.{◌+◌, ◌-◌, ◌*◌, ◌≤◌}
+use Prim.Native.Nat.{◌+◌, ◌-◌, ◌*◌}
 use mathlib.Core.Path.{◌≡◌, ◌∙◌}
 use native.Mathlib.Omega.{arith}
-use borrow.Author.Rules.{rules}
 use lib.Ieee.{nan}
 use lib.ListN.{get_or}
 use Rattle.lists.specs.Lists.{image}
@@ -10,7 +9,7 @@ use Rattle.floats.specs.F32.{◌⊖◌, ◌⊗◌}
 use Rattle.bits.proofs.Stretches.{stretch_further}
 use Rattle.rows.proofs.Folds.{fold_none, fold_all}
 use Rattle.sums.specs.Sums.{error_of}
-use Rattle.sums.proofs.Folds.{proj_to, proj_stretch, proj_end, error_at}
+use Rattle.sums.proofs.Folds.{proj_stretch, proj_end, error_at}
 use Rattle.sums.proofs.errors.Goals as goal
 
 pub loop-i-init : goal.loop-i-init

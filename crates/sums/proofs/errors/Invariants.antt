@@ -1,16 +1,9 @@
 -- `sums::errors` meets its contract. The loop's invariant: the three sums are those over the marked places below i. A turn goes through a stretch. Assumes nothing.
-use Prim.Native.Nat.{◌+◌, ◌-◌, ◌*◌, ◌≤◌}
-use mathlib.Core.Path.{◌≡◌, ◌∙◌}
-use native.Mathlib.Omega.{arith}
-use borrow.Author.Rules.{rules}
-use lib.Ieee.{nan}
-use lib.ListN.{get_or}
+use Prim.Native.Nat.{◌-◌, ◌≤◌}
+use mathlib.Core.Path.{◌≡◌}
 use Rattle.lists.specs.Lists.{image}
-use Rattle.floats.specs.F32.{◌⊖◌, ◌⊗◌}
-use Rattle.bits.proofs.Stretches.{stretch_further}
-use Rattle.rows.proofs.Folds.{fold_none, fold_all}
 use Rattle.sums.specs.Sums.{error_of}
-use Rattle.sums.proofs.Folds.{proj_to, proj_stretch, proj_end, error_at}
+use Rattle.sums.proofs.Folds.{proj_to}
 use Rattle.sums.proofs.errors.Given as goal
 
 abbrev pub invariant-loop-i : goal.invariant-loop-i

@@ -1,13 +1,10 @@
 -- `sums::errors_stretch` meets its contract. The loop's invariant: the three sums are those over the places from `from` on, before i, added to what stood. Assumes nothing.
 use Prim.Native.Nat.{ℕ, ◌+◌, ◌-◌, ◌*◌, ◌≤◌}
-use mathlib.Core.Path.{◌≡◌, ap, ◌∙◌}
+use mathlib.Core.Path.{◌≡◌}
 use mathlib.Core.List.{List}
-use native.Mathlib.Omega.{arith}
-use borrow.Author.Rules.{rules}
 use lib.Ieee.{Float, nan}
 use lib.ListN.{get_or}
 use Rattle.lists.specs.Marked.{over_range}
-use Rattle.lists.proofs.Fold.{range_none, range_turn}
 use Rattle.floats.specs.F32.{◌⊖◌, ◌⊗◌}
 use Rattle.inverse.specs.declared.Vector3.{Vector3}
 use Rattle.sums.specs.Steps.{j_at, scaled_more}

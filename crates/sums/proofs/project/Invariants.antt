@@ -1,12 +1,8 @@
 -- `sums::project` meets its contract. The loop's invariant: the sixteen sums are those over the marked places below i. A turn goes through a stretch. Assumes nothing.
 use Prim.Native.Nat.{◌-◌, ◌≤◌}
-use mathlib.Core.Path.{◌≡◌, refl}
-use native.Mathlib.Omega.{arith}
-use borrow.Author.Rules.{rules}
-use lib.Ieee.{nan}
-use lib.ListN.{length, get_or-replicate}
-use Rattle.bits.proofs.Stretches.{stretch_further}
-use Rattle.sums.proofs.Folds.{SumsTo, sums_none, sums_stretch, sums_end}
+use mathlib.Core.Path.{◌≡◌}
+use lib.ListN.{length}
+use Rattle.sums.proofs.Folds.{SumsTo}
 use Rattle.sums.proofs.project.Given as goal
 
 abbrev pub invariant-loop-i : goal.invariant-loop-i

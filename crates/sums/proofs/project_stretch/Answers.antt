@@ -1,10 +1,8 @@
 -- `sums::project_stretch` meets its contract. The loop's invariant: the pixels from `from` on, before i, are added to the sums that stood. Assumes nothing.
-use Prim.Native.Nat.{◌-◌, ◌≤◌}
+use Prim.Native.Nat.{◌-◌}
 use mathlib.Core.Path.{◌≡◌, refl}
 use native.Mathlib.Omega.{arith}
 use borrow.Author.Rules.{rules}
-use lib.ListN.{length}
-use Rattle.sums.specs.Fours.{SumsMore}
 use Rattle.sums.proofs.Fours.{more_none, more_turn}
 use Rattle.sums.proofs.project_stretch.Goals as goal
 

@@ -1,6 +1,5 @@
 -- `sums::put_four` meets its contract. Assumes nothing.
 use native.Mathlib.Omega.{arith}
-use borrow.Author.Rules.{rules}
 use lib.ListN.{length-set}
 use Rattle.sums.proofs.Fours.{four_put}
 use Rattle.sums.proofs.put_four.Goals as goal

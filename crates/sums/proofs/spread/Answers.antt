@@ -1,10 +1,8 @@
 -- `sums::spread` meets its contract. The loop's invariant: the first k pixels are laid out, and what stands behind them is as it was. Assumes nothing.
-use Prim.Native.Nat.{◌-◌, ◌≤◌}
+use Prim.Native.Nat.{◌-◌}
 use mathlib.Core.Path.{◌≡◌, refl}
 use native.Mathlib.Omega.{arith}
-use borrow.Author.Rules.{rules}
-use lib.ListN.{length, length-set}
-use Rattle.sums.specs.Fours.{Spread}
+use lib.ListN.{length-set}
 use Rattle.sums.proofs.Fours.{spread_none, spread_more}
 use Rattle.sums.proofs.spread.Goals as goal
 

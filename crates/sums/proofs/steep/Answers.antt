@@ -2,11 +2,8 @@
 use Prim.Native.Nat.{◌+◌, ◌-◌, ◌*◌, ◌≤◌}
 use mathlib.Core.Path.{◌≡◌, refl}
 use native.Mathlib.Omega.{arith}
-use borrow.Author.Rules.{rules}
-use lib.ListN.{length}
-use Rattle.lists.specs.Lists.{grid, put}
 use Rattle.lists.proofs.Fill.{row_in}
-use Rattle.sums.proofs.Rows.{rows_rule, row_none, row_more, steep_end}
+use Rattle.sums.proofs.Rows.{row_none, row_more, steep_end}
 use Rattle.sums.proofs.steep.Goals as goal
 
 pub loop-y-init : goal.loop-y-init

@@ -1,12 +1,9 @@
 -- `sums::steep` meets its contract. The loop's invariant: the rows from `first` on, before y, stand in image 5, and nothing else has changed. Assumes nothing.
 use Prim.Native.Nat.{◌+◌, ◌-◌, ◌*◌, ◌≤◌}
-use mathlib.Core.Path.{◌≡◌, refl}
-use native.Mathlib.Omega.{arith}
-use borrow.Author.Rules.{rules}
+use mathlib.Core.Path.{◌≡◌}
 use lib.ListN.{length}
 use Rattle.lists.specs.Lists.{grid, put}
-use Rattle.lists.proofs.Fill.{row_in}
-use Rattle.sums.proofs.Rows.{rows_rule, row_none, row_more, steep_end}
+use Rattle.sums.proofs.Rows.{rows_rule}
 use Rattle.sums.proofs.steep.Given as goal
 
 abbrev pub invariant-loop-y : goal.invariant-loop-y

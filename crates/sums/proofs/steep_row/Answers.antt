@@ -1,12 +1,10 @@
 -- `sums::steep_row` meets its contract. The loop's invariant: the first x numbers of the row stand, and nothing else has changed. Assumes nothing.
-use Prim.Native.Nat.{◌+◌, ◌-◌, ◌*◌, ◌≤◌}
+use Prim.Native.Nat.{◌-◌}
 use mathlib.Core.Path.{◌≡◌, refl}
 use native.Mathlib.Omega.{arith}
-use borrow.Author.Rules.{rules}
-use lib.ListN.{length, length-set}
-use Rattle.lists.specs.Lists.{tab, put}
+use lib.ListN.{length-set}
 use Rattle.lists.proofs.Fill.{fill_none}
-use Rattle.sums.proofs.Rows.{row_rule, pixel_more}
+use Rattle.sums.proofs.Rows.{pixel_more}
 use Rattle.sums.proofs.steep_row.Goals as goal
 
 pub loop-x-init : goal.loop-x-init

@@ -1,12 +1,9 @@
 -- `sums::steep_row` meets its contract. The loop's invariant: the first x numbers of the row stand, and nothing else has changed. Assumes nothing.
 use Prim.Native.Nat.{◌+◌, ◌-◌, ◌*◌, ◌≤◌}
-use mathlib.Core.Path.{◌≡◌, refl}
-use native.Mathlib.Omega.{arith}
-use borrow.Author.Rules.{rules}
-use lib.ListN.{length, length-set}
+use mathlib.Core.Path.{◌≡◌}
+use lib.ListN.{length}
 use Rattle.lists.specs.Lists.{tab, put}
-use Rattle.lists.proofs.Fill.{fill_none}
-use Rattle.sums.proofs.Rows.{row_rule, pixel_more}
+use Rattle.sums.proofs.Rows.{row_rule}
 use Rattle.sums.proofs.steep_row.Given as goal
 
 abbrev pub invariant-loop-x : goal.invariant-loop-x

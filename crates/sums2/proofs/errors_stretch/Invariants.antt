@@ -2,12 +2,9 @@
 use Prim.Native.Nat.{ℕ, ◌+◌, ◌-◌, ◌*◌, ◌≤◌}
 use mathlib.Core.Path.{◌≡◌}
 use mathlib.Core.List.{List}
-use native.Mathlib.Omega.{arith}
-use borrow.Author.Rules.{rules}
 use lib.Ieee.{Float, nan}
 use lib.ListN.{get_or}
 use Rattle.lists.specs.Marked.{over_range}
-use Rattle.lists.proofs.Fold.{range_none, range_turn}
 use Rattle.floats.specs.F32.{◌⊖◌, ◌⊗◌}
 use Rattle.inverse2.specs.declared.Vector2.{Vector2}
 use Rattle.sums2.specs.Steps.{scaled_more}

@@ -1,11 +1,10 @@
 -- `sums2::project` meets its contract. The loop's invariant: the seven sums are those over the marked places below i. A turn goes through a stretch. Assumes nothing.
-use Prim.Native.Nat.{◌-◌, ◌≤◌}
+use Prim.Native.Nat.{◌-◌}
 use mathlib.Core.Path.{◌≡◌, ◌∙◌}
 use native.Mathlib.Omega.{arith}
-use borrow.Author.Rules.{rules}
 use Rattle.bits.proofs.Stretches.{stretch_further}
 use Rattle.sums2.specs.Steps.{seven_at}
-use Rattle.rows.proofs.Folds.{fold_to, fold_none, fold_all, fold_stretch}
+use Rattle.rows.proofs.Folds.{fold_none, fold_all, fold_stretch}
 use Rattle.sums2.proofs.Folds.{seven_step, seven_same, no_seven, seven_end}
 use Rattle.sums2.proofs.project.Goals as goal
 

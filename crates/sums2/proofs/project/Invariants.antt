@@ -1,12 +1,8 @@
 -- `sums2::project` meets its contract. The loop's invariant: the seven sums are those over the marked places below i. A turn goes through a stretch. Assumes nothing.
 use Prim.Native.Nat.{◌-◌, ◌≤◌}
-use mathlib.Core.Path.{◌≡◌, ◌∙◌}
-use native.Mathlib.Omega.{arith}
-use borrow.Author.Rules.{rules}
-use Rattle.bits.proofs.Stretches.{stretch_further}
-use Rattle.sums2.specs.Steps.{seven_at}
-use Rattle.rows.proofs.Folds.{fold_to, fold_none, fold_all, fold_stretch}
-use Rattle.sums2.proofs.Folds.{seven_step, seven_same, no_seven, seven_end}
+use mathlib.Core.Path.{◌≡◌}
+use Rattle.rows.proofs.Folds.{fold_to}
+use Rattle.sums2.proofs.Folds.{seven_step, no_seven}
 use Rattle.sums2.proofs.project.Given as goal
 
 abbrev pub invariant-loop-i : goal.invariant-loop-i

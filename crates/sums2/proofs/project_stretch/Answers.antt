@@ -1,9 +1,7 @@
 -- `sums2::project_stretch` meets its contract. The loop's invariant: the seven sums are those over the places from `from` on, before i, added to what stood. Assumes nothing.
-use Prim.Native.Nat.{◌-◌, ◌≤◌}
+use Prim.Native.Nat.{◌-◌}
 use mathlib.Core.Path.{◌≡◌, ◌∙◌}
 use native.Mathlib.Omega.{arith}
-use borrow.Author.Rules.{rules}
-use Rattle.lists.specs.Marked.{over_range}
 use Rattle.lists.proofs.Fold.{range_none, range_turn}
 use Rattle.sums2.specs.Steps.{seven_at}
 use Rattle.sums2.proofs.project_stretch.Goals as goal

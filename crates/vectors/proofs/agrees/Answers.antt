@@ -3,7 +3,6 @@ use mathlib.Core.Path.{sym, ◌∙◌}
 use borrow.Author.Tests.{lt-ltb, le-ltb}
 use Rattle.lists.proofs.Cases.{pick_true, pick_false}
 use Rattle.vectors.specs.Vectors.{agrees_of}
-use borrow.Author.Rules.{rules}
 use Rattle.vectors.proofs.agrees.Goals as goal
 
 pub returns-then-kind-lt16 : goal.returns-then-kind-lt16

@@ -1,7 +1,5 @@
 -- `verdict::judge` meets its contract: one case for each of its five ends. Assumes nothing.
 use mathlib.Core.Path.{sym, ◌∙◌}
-use borrow.Author.Rules.{rules}
-use borrow.Author.Tests.{not-true, not-false}
 use Rattle.verdict.proofs.Ends.{flat_template, flat_image, rho_endless, rho_settled, rho_open}
 use Rattle.verdict.proofs.judge.Goals as goal
 

@@ -1,6 +1,5 @@
 -- `verdict::settled` meets its contract: where the last correlation is finite, the second test decides. Assumes nothing.
 use mathlib.Core.Path.{sym, ◌∙◌}
-use borrow.Author.Rules.{rules}
 use Rattle.verdict.proofs.Ends.{by_difference}
 use Rattle.verdict.proofs.settled.Goals as goal
 

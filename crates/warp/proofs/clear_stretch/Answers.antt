@@ -2,10 +2,9 @@
 use mathlib.Core.Path.{refl}
 use Prim.Native.Nat.{◌-◌}
 use native.Mathlib.Omega.{arith}
-use borrow.Author.Rules.{rules}
 use lib.ListN.{length-set}
 use Rattle.floats.specs.F32.{0f}
-use Rattle.blends.proofs.Stretch.{StretchHeld, stretch_start, stretch_more, stretch_end}
+use Rattle.blends.proofs.Stretch.{stretch_start, stretch_more, stretch_end}
 use Rattle.warp.proofs.clear_stretch.Goals as goal
 
 pub loop-x-init : goal.loop-x-init

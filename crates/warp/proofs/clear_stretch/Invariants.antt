@@ -1,11 +1,7 @@
 -- `warp::clear_stretch` meets its contract. Assumes nothing.
-use mathlib.Core.Path.{refl}
 use Prim.Native.Nat.{◌-◌}
-use native.Mathlib.Omega.{arith}
-use borrow.Author.Rules.{rules}
-use lib.ListN.{length-set}
 use Rattle.floats.specs.F32.{0f}
-use Rattle.blends.proofs.Stretch.{StretchHeld, stretch_start, stretch_more, stretch_end}
+use Rattle.blends.proofs.Stretch.{StretchHeld}
 use Rattle.warp.proofs.clear_stretch.Given as goal
 
 abbrev pub invariant-loop-x : goal.invariant-loop-x

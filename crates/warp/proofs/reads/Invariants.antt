@@ -1,9 +1,6 @@
 -- `warp::reads` meets its contract: a stretch at a turn. Assumes nothing.
-use Prim.Native.Nat.{◌+◌, ◌-◌}
-use native.Mathlib.Omega.{arith}
-use borrow.Author.Rules.{rules}
-use Rattle.bits.proofs.Stretches.{stretch_full, stretch_further}
-use Rattle.warp.proofs.Rows.{ReadsHeld, reads_start, reads_turn, reads_end}
+use Prim.Native.Nat.{◌-◌}
+use Rattle.warp.proofs.Rows.{ReadsHeld}
 use Rattle.warp.proofs.reads.Given as goal
 
 abbrev pub invariant-loop-x : goal.invariant-loop-x

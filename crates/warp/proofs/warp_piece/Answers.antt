@@ -2,7 +2,6 @@
 use Prim.Native.Nat.{◌*◌, ◌+◌, ◌≤◌}
 use native.Mathlib.Nat.{mul-le-mul}
 use native.Mathlib.Omega.{arith}
-use borrow.Author.Rules.{rules}
 use Rattle.lists.proofs.Fill.{row_in}
 use Rattle.bits.specs.Words.{unpacked_of}
 use Rattle.bits.specs.Packing.{Flags}

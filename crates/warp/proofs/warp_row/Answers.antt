@@ -1,11 +1,8 @@
 -- `warp::warp_row` meets its contract: a piece at a turn. Assumes nothing.
-use Prim.Native.Nat.{◌-◌, ◌*◌, ◌≤◌}
+use Prim.Native.Nat.{◌-◌, ◌*◌}
 use mathlib.Core.Path.{◌≡◌, refl, ◌∙◌}
 use native.Mathlib.Omega.{arith}
-use borrow.Author.Rules.{rules}
-use lib.ListN.{length}
 use Rattle.lists.proofs.Fill.{row_in}
-use Rattle.warp.specs.Rows.{WarpedThrough}
 use Rattle.warp.proofs.Frame.{onward_none, onward_more, onward_holding}
 use Rattle.warp.proofs.warp_row.Goals as goal
 

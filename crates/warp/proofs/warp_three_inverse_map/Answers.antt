@@ -1,17 +1,14 @@
 -- `warp::warp_three_inverse_map` meets its contract: a row at a turn. Assumes nothing.
-use Prim.Native.Nat.{ℕ, ◌-◌, ◌*◌, ◌+◌, ◌≤◌, ◌<◌}
+use Prim.Native.Nat.{ℕ, ◌-◌, ◌*◌, ◌+◌, ◌<◌}
 use mathlib.Core.Path.{◌≡◌, refl, sym, ap, ◌∙◌}
 use native.Mathlib.Nat.{mul-le-mul, mul_comm, zero-mul, zero-add}
 use native.Mathlib.Omega.{arith}
-use borrow.Author.Rules.{rules}
-use lib.ListN.{length}
 use Rattle.lists.specs.Lists.{tab, put}
 use Rattle.lists.proofs.Fill.{row_in}
 use Rattle.bits.specs.Words.{ones_of}
 use Rattle.bits.specs.Packing.{words_to}
 use Rattle.bits.proofs.Equal.{words_none}
 use Rattle.places.specs.Point.{marks_of}
-use Rattle.warp.specs.Rows.{WarpedThrough}
 use Rattle.warp.proofs.Frame.{holding, onward_none, onward_more, onward_holding, onward_all}
 use Rattle.warp.proofs.warp_three_inverse_map.Goals as goal
 

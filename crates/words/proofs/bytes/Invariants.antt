@@ -1,14 +1,9 @@
 -- `words::bytes` meets its contract. The loop's invariant: the first i bytes are those of the words. The measure is what is left. Assumes nothing.
-use mathlib.Core.Path.{◌≡◌, refl, sym, ap, ◌∙◌}
-use Prim.Native.Nat.{ℕ, ◌+◌, ◌%◌, ◌-◌, ◌≤◌}
-use native.Mathlib.Omega.{arith}
-use lib.ListN.{length, take, length-set}
-use lib.Seq.{take-length}
-use borrow.Author.Rules.{rules}
+use mathlib.Core.Path.{◌≡◌}
+use Prim.Native.Nat.{◌+◌, ◌%◌, ◌-◌, ◌≤◌}
+use lib.ListN.{length, take}
 use Rattle.lists.specs.Lists.{tab}
-use Rattle.lists.proofs.Grow.{tab_zero}
-use Rattle.lists.proofs.Fill.{front_turn}
-use Rattle.words.specs.Words.{stored_at, bytes_at}
+use Rattle.words.specs.Words.{stored_at}
 use Rattle.words.proofs.bytes.Given as goal
 
 abbrev pub invariant-loop-i : goal.invariant-loop-i

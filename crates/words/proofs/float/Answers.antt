@@ -1,7 +1,6 @@
 -- `words::float` meets its contract. Assumes nothing.
 use mathlib.Core.Path.{ap, ◌∙◌}
 use lib.Ieee.{binary32, of_bits}
-use borrow.Author.Rules.{rules}
 use Rattle.words.proofs.float.Goals as goal
 
 pub returns : goal.returns

@@ -1,12 +1,11 @@
 -- `words::floats` meets its contract. The loop's invariant: the first i floats stand from `at` on. The measure is what is left. Assumes nothing.
 use mathlib.Core.Path.{◌≡◌, refl, ap, ◌∙◌}
-use Prim.Native.Nat.{◌+◌, ◌-◌, ◌≤◌}
+use Prim.Native.Nat.{◌-◌}
 use native.Mathlib.Omega.{arith}
-use lib.ListN.{length, length-set}
+use lib.ListN.{length-set}
 use borrow.Author.Rules.{rules}
-use Rattle.lists.specs.Lists.{tab, put}
 use Rattle.lists.proofs.Fill.{fill_none, fill_more}
-use Rattle.words.specs.Words.{stored_at, float_of, floats_at}
+use Rattle.words.specs.Words.{float_of, floats_at}
 use Rattle.words.proofs.floats.Goals as goal
 
 pub loop-i-init : goal.loop-i-init

@@ -1,12 +1,9 @@
 -- `words::floats` meets its contract. The loop's invariant: the first i floats stand from `at` on. The measure is what is left. Assumes nothing.
-use mathlib.Core.Path.{◌≡◌, refl, ap, ◌∙◌}
+use mathlib.Core.Path.{◌≡◌}
 use Prim.Native.Nat.{◌+◌, ◌-◌, ◌≤◌}
-use native.Mathlib.Omega.{arith}
-use lib.ListN.{length, length-set}
-use borrow.Author.Rules.{rules}
+use lib.ListN.{length}
 use Rattle.lists.specs.Lists.{tab, put}
-use Rattle.lists.proofs.Fill.{fill_none, fill_more}
-use Rattle.words.specs.Words.{stored_at, float_of, floats_at}
+use Rattle.words.specs.Words.{stored_at, float_of}
 use Rattle.words.proofs.floats.Given as goal
 
 abbrev pub invariant-loop-i : goal.invariant-loop-i

@@ -1,5 +1,4 @@
 -- `words::same` meets its contract. Assumes nothing.
-use borrow.Author.Rules.{rules}
 use Rattle.words.proofs.same.Goals as goal
 
 pub returns : goal.returns

@@ -1,13 +1,11 @@
 -- `words::same_floats` meets its contract. The loop's invariant: `all` says whether the first i agree. The measure is what is left. Assumes nothing.
 use mathlib.Core.Path.{◌≡◌, refl, sym, ap, ◌∙◌}
-use mathlib.Core.Logic.{⊎_elim}
-use Prim.Native.Nat.{◌+◌, ◌-◌, ◌≤◌}
+use Prim.Native.Nat.{◌+◌, ◌-◌}
 use native.Mathlib.Omega.{arith}
-use lib.ListN.{length, get_or}
+use lib.ListN.{get_or}
 use lib.Ieee.{nan}
 use borrow.Author.Rules.{rules}
-use borrow.Author.Tests.{not-true, not-false}
-use Rattle.words.specs.Words.{stored_at, has_bits, all_below, floats_agree}
+use Rattle.words.specs.Words.{stored_at, has_bits, all_below}
 use Rattle.words.proofs.Agree.{all_passed, all_failed, floats_run}
 use Rattle.words.proofs.same_floats.Goals.{else-not-same, then-not-same}
 use Rattle.words.proofs.same_floats.Goals as goal

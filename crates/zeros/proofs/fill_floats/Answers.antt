@@ -1,10 +1,9 @@
 -- `zeros::fill_floats` meets its contract. The loop's invariant: the first i numbers are +0. The measure is what is left of them. Assumes nothing.
 use mathlib.Core.Path.{◌≡◌, refl}
-use Prim.Native.Nat.{◌-◌, ◌≤◌}
+use Prim.Native.Nat.{◌-◌}
 use native.Mathlib.Omega.{arith}
 use borrow.Author.Rules.{rules}
-use lib.ListN.{length, length-set}
-use Rattle.lists.specs.Lists.{tab, put}
+use lib.ListN.{length-set}
 use Rattle.lists.proofs.Fill.{fill_none, fill_more}
 use Rattle.floats.specs.F32.{0f}
 use Rattle.zeros.proofs.fill_floats.Goals as goal

@@ -1,11 +1,8 @@
 -- `zeros::fill_floats` meets its contract. The loop's invariant: the first i numbers are +0. The measure is what is left of them. Assumes nothing.
-use mathlib.Core.Path.{◌≡◌, refl}
+use mathlib.Core.Path.{◌≡◌}
 use Prim.Native.Nat.{◌-◌, ◌≤◌}
-use native.Mathlib.Omega.{arith}
-use borrow.Author.Rules.{rules}
-use lib.ListN.{length, length-set}
+use lib.ListN.{length}
 use Rattle.lists.specs.Lists.{tab, put}
-use Rattle.lists.proofs.Fill.{fill_none, fill_more}
 use Rattle.floats.specs.F32.{0f}
 use Rattle.zeros.proofs.fill_floats.Given as goal
 

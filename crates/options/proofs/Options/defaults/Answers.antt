@@ -1,7 +1,6 @@
 -- `options::Options::defaults` takes over document 000's settings. Assumes nothing.
 use Prim.Native.Nat.{ℕ}
 use mathlib.Core.Path.{ap, ◌∙◌}
-use borrow.Author.Rules.{rules}
 use lib.Ieee.{binary32, to_bits}
 use Rattle.options.specs.Words.{options_of}
 use Rattle.options.proofs.Options.defaults.Goals as goal

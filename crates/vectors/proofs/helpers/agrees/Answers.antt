@@ -13,7 +13,6 @@ use Rattle.root.specs.Root.{sqrt_of}
 use Rattle.words.specs.Words.{stored_at, float_of, has_bits}
 use Rattle.vectors.specs.Helpers.{helper_table, helper_agrees}
 use Rattle.vectors.proofs.Tests.{Absent, kind_none}
-use borrow.Author.Rules.{rules}
 use native.Mathlib.Omega.{arith}
 use Rattle.vectors.proofs.helpers.agrees.Goals as goal
 

@@ -8,7 +8,6 @@ use Rattle.floats.specs.Bound.{UpTo}
 use Rattle.floats.proofs.Signs.{up_to_of_le}
 use Rattle.words.specs.Words.{has_bits}
 use Rattle.vectors.proofs.Tests.{and_passed, both, first_failed}
-use borrow.Author.Rules.{rules}
 use Rattle.vectors.proofs.helpers.faded.Goals as goal
 
 six_is : HasValue (of_bits binary32 0x40c0_0000) false 6 1

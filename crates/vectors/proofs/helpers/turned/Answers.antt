@@ -9,7 +9,6 @@ use Rattle.floats.specs.Bound.{Within}
 use Rattle.floats.proofs.Signs.{within_of_le}
 use Rattle.words.specs.Words.{has_bits}
 use Rattle.vectors.proofs.Tests.{and_passed, both, first_failed}
-use borrow.Author.Rules.{rules}
 use Rattle.vectors.proofs.helpers.turned.Goals as goal
 
 two_is : HasValue (of_bits binary32 0x4000_0000) false 2 1

@@ -4,7 +4,6 @@ use borrow.Author.Tests.{le-leb, lt-leb}
 use lib.Ieee.{Float}
 use Rattle.words.specs.Words.{has_bits}
 use Rattle.vectors.proofs.Tests.{and_passed, first_failed}
-use borrow.Author.Rules.{rules}
 use Rattle.vectors.proofs.helpers.widened.Goals as goal
 
 pub returns-then-n-le16777216 : goal.returns-then-n-le16777216

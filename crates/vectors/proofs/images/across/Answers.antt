@@ -8,7 +8,6 @@ use Rattle.vectors.proofs.Sides.{unfit_of}
 use Rattle.vectors.proofs.Stages.{gradient_told}
 use Rattle.gradients.proofs.Sizes.{length_gradient_x}
 use Rattle.gradients.specs.Gradients.{gradient_x}
-use borrow.Author.Rules.{rules}
 use Rattle.vectors.proofs.images.across.Goals as goal
 
 pub returns-then-not-s : goal.returns-then-not-s

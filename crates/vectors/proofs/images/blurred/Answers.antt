@@ -5,7 +5,6 @@ use borrow.Author.Tests.{not-false}
 use Rattle.vectors.specs.Images.{blur_agrees}
 use Rattle.vectors.proofs.Sides.{unfit_of, fit_of, no_kernel}
 use Rattle.vectors.proofs.Stages.{blur_told}
-use borrow.Author.Rules.{rules}
 use Rattle.vectors.proofs.images.blurred.Goals as goal
 
 pub returns-then-not-s : goal.returns-then-not-s

@@ -8,7 +8,6 @@ use Rattle.vectors.proofs.Stages.{gradient_told}
 use Rattle.gradients.proofs.Sizes.{length_gradient_y}
 use Rattle.gradients.specs.Gradients.{gradient_y}
 use Prim.Native.Nat.{◌*◌}
-use borrow.Author.Rules.{rules}
 use Rattle.vectors.proofs.images.down.Goals as goal
 
 pub returns-then-not-s : goal.returns-then-not-s

@@ -4,7 +4,6 @@ use native.Mathlib.Omega.{arith}
 use Rattle.vectors.specs.Images.{kernel_agrees}
 use Rattle.vectors.proofs.Sides.{no_kernel}
 use Rattle.vectors.proofs.Stages.{kernel_told}
-use borrow.Author.Rules.{rules}
 use Rattle.vectors.proofs.images.kernel.Goals as goal
 
 pub returns-then-ksize-lt3 : goal.returns-then-ksize-lt3

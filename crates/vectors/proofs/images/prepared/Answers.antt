@@ -7,7 +7,6 @@ use Rattle.vectors.proofs.Sides.{unfit_of, fit_of, no_filter}
 use Rattle.vectors.proofs.Stages.{prepared_told}
 use lib.ListN.{length, take}
 use lib.Seq.{length-take-le}
-use borrow.Author.Rules.{rules}
 use Rattle.vectors.proofs.images.prepared.Goals as goal
 
 pub returns-then-not-s : goal.returns-then-not-s

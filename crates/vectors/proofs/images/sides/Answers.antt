@@ -2,7 +2,6 @@
 use Rattle.vectors.specs.Images.{sides_agree}
 use Rattle.vectors.proofs.Sides.{no_side, some_side}
 use Rattle.vectors.proofs.Stages.{sides_told, sides_differ}
-use borrow.Author.Rules.{rules}
 use Rattle.vectors.proofs.images.sides.Goals as goal
 
 pub returns-then-w-eq0 : goal.returns-then-w-eq0

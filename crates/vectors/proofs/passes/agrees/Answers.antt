@@ -4,7 +4,6 @@ use mathlib.Core.Path.{sym, ap, ◌∙◌}
 use Rattle.lists.specs.Marked.{pick}
 use Rattle.vectors.specs.Passes.{pass_table, pass_agrees}
 use Rattle.vectors.proofs.Tests.{Absent, kind_none}
-use borrow.Author.Rules.{rules}
 use native.Mathlib.Omega.{arith}
 use Rattle.vectors.proofs.passes.agrees.Goals as goal
 

@@ -1,10 +1,9 @@
 -- `vectors::passes::flagged` meets its contract. The loop's invariant: the first i flags are made. The measure is what is left of them. Assumes nothing.
 use mathlib.Core.Path.{◌≡◌, refl}
-use Prim.Native.Nat.{◌-◌, ◌≤◌}
+use Prim.Native.Nat.{◌-◌}
 use native.Mathlib.Omega.{arith}
 use borrow.Author.Rules.{rules}
-use lib.ListN.{length, length-set}
-use Rattle.lists.specs.Lists.{tab, put}
+use lib.ListN.{length-set}
 use Rattle.lists.proofs.Fill.{fill_none, front_more}
 use Rattle.marks.specs.Marks.{on}
 use Rattle.bits.specs.Packing.{flag_of}

@@ -7,7 +7,6 @@ use Rattle.words.specs.Words.{stored_at}
 use Rattle.vectors.specs.Passes.{inverse_told}
 use Rattle.vectors.proofs.Tests.{and_passed, first_failed}
 use Rattle.vectors.proofs.Parts.{inverse_told_lem}
-use borrow.Author.Rules.{rules}
 use Rattle.vectors.proofs.passes.inverted.Goals as goal
 
 pub returns-in-Missing : goal.returns-in-Missing

@@ -2,7 +2,6 @@
 use mathlib.Core.Path.{ap, ◌∙◌}
 use Rattle.words.specs.Words.{float_of}
 use Rattle.vectors.specs.Passes.{map_at}
-use borrow.Author.Rules.{rules}
 use Rattle.vectors.proofs.passes.map_at.Goals as goal
 
 pub returns : goal.returns

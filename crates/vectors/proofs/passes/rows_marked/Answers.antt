@@ -1,17 +1,10 @@
 -- `vectors::passes::rows_marked` meets its contract. Assumes nothing.
 use mathlib.Core.Path.{◌∙◌}
 use native.Mathlib.Omega.{arith}
-use borrow.Author.Rules.{rules}
 use borrow.Author.Tests.{not-false}
 use Rattle.vectors.specs.Passes.{rows_agree}
 use Rattle.vectors.proofs.Sides.{unfit_of}
 use Rattle.vectors.proofs.Parts.{rows_told_lem}
-use Rattle.vectors.proofs.passes.rows_marked.Reads as reads
-use Rattle.rows.proofs.marked_rows.Reads as marked_rows_reads
-use Rattle.vectors.proofs.passes.packed.Reads as packed_reads
-use Rattle.vectors.proofs.passes.rows_told.Reads as rows_told_reads
-use Rattle.vectors.proofs.shapes.sides_at.Reads as sides_at_reads
-use Rattle.words.proofs.bytes.Reads as bytes_reads
 use Rattle.vectors.proofs.passes.rows_marked.Goals as goal
 
 pub returns-then-not-s : goal.returns-then-not-s

@@ -1,14 +1,11 @@
 -- `vectors::passes::rows_told` meets its contract. Assumes nothing.
 use Prim.Native.Nat.{ℕ, ◌+◌}
 use mathlib.Core.Path.{sym, ap, ◌∙◌}
-use borrow.Author.Rules.{rules}
 use borrow.Author.Tests.{eq-eqb, ne_eqb}
 use lib.Dec.{eqb}
 use Rattle.words.specs.Words.{stored_at}
 use Rattle.vectors.specs.Passes.{rows_told}
 use Rattle.vectors.proofs.Tests.{and_passed, first_failed, second_failed}
-use Rattle.vectors.proofs.passes.rows_told.Reads as reads
-use Rattle.words.proofs.word.Reads as word_reads
 use Rattle.vectors.proofs.passes.rows_told.Goals as goal
 
 pub returns-in_default : goal.returns-in_default

@@ -1,19 +1,12 @@
 -- `vectors::passes::same_marked` meets its contract. The loop's invariant: `all` says whether the first i agree where they are marked. The measure is what is left. Assumes nothing.
-use mathlib.Core.Path.{◌≡◌, refl, sym, ap, ◌∙◌}
-use mathlib.Core.Logic.{⊎_elim}
-use mathlib.Core.Bool.{true, not}
+use mathlib.Core.Path.{◌≡◌}
+use mathlib.Core.Bool.{true}
 use Prim.Native.Nat.{◌+◌, ◌-◌, ◌≤◌}
-use native.Mathlib.Omega.{arith}
-use borrow.Author.Rules.{rules}
-use borrow.Author.Tests.{not-true, not-false, eq-eqb, ne_eqb}
 use lib.ListN.{get_or}
 use lib.Ieee.{nan}
 use Rattle.lists.specs.Marked.{pick}
-use Rattle.lists.proofs.Cases.{pick_true, pick_false}
 use Rattle.marks.specs.Marks.{on}
 use Rattle.words.specs.Words.{stored_at, has_bits, all_below}
-use Rattle.words.proofs.Agree.{all_passed, all_failed}
-use Rattle.vectors.proofs.Marked.{marked_run}
 use Rattle.vectors.proofs.passes.same_marked.Given as goal
 
 abbrev pub invariant-loop-i : goal.invariant-loop-i

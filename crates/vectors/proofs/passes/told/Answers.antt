@@ -1,9 +1,7 @@
 -- `vectors::passes::told` meets its contract. Assumes nothing.
 use mathlib.Core.Path.{sym, ap, ◌∙◌}
 use lib.Dec.{eqb}
-use borrow.Author.Tests.{not-true, not-false}
 use Rattle.vectors.proofs.Tests.{and_passed, both}
-use borrow.Author.Rules.{rules}
 use Rattle.vectors.proofs.passes.told.Goals as goal
 
 pub returns-then-not-same_floats : goal.returns-then-not-same_floats

@@ -1,7 +1,5 @@
 -- `vectors::passes::told_marked` meets its contract. Assumes nothing.
 use mathlib.Core.Path.{sym, ◌∙◌}
-use borrow.Author.Rules.{rules}
-use borrow.Author.Tests.{not-true, not-false}
 use Rattle.lists.specs.Lists.{image}
 use Rattle.vectors.proofs.Tests.{and_passed, both}
 use Rattle.vectors.proofs.passes.told_marked.Goals as goal

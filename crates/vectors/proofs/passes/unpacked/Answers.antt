@@ -1,10 +1,9 @@
 -- `vectors::passes::unpacked` meets its contract. The loop's invariant: the first i marks are read. The measure is what is left of them. Assumes nothing.
 use mathlib.Core.Path.{◌≡◌, refl, ap, ◌∙◌}
-use Prim.Native.Nat.{◌-◌, ◌≤◌}
+use Prim.Native.Nat.{◌-◌}
 use native.Mathlib.Omega.{arith}
 use borrow.Author.Rules.{rules}
-use lib.ListN.{length, length-set}
-use Rattle.lists.specs.Lists.{tab, put}
+use lib.ListN.{length-set}
 use Rattle.lists.proofs.Fill.{fill_none, front_more}
 use mir.Val.{bool_byte}
 use Rattle.bits.specs.Words.{bit_at, unpacked_of}

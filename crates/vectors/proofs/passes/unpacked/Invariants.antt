@@ -1,14 +1,9 @@
 -- `vectors::passes::unpacked` meets its contract. The loop's invariant: the first i marks are read. The measure is what is left of them. Assumes nothing.
-use mathlib.Core.Path.{◌≡◌, refl, ap, ◌∙◌}
+use mathlib.Core.Path.{◌≡◌}
 use Prim.Native.Nat.{◌-◌, ◌≤◌}
-use native.Mathlib.Omega.{arith}
-use borrow.Author.Rules.{rules}
-use lib.ListN.{length, length-set}
+use lib.ListN.{length}
 use Rattle.lists.specs.Lists.{tab, put}
-use Rattle.lists.proofs.Fill.{fill_none, front_more}
-use mir.Val.{bool_byte}
-use Rattle.bits.specs.Words.{bit_at, unpacked_of}
-use Rattle.vectors.proofs.Packing.{bit_byte}
+use Rattle.bits.specs.Words.{bit_at}
 use Rattle.vectors.proofs.passes.unpacked.Given as goal
 
 abbrev pub invariant-loop-i : goal.invariant-loop-i

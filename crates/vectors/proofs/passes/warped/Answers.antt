@@ -1,7 +1,6 @@
 -- `vectors::passes::warped` meets its contract. Assumes nothing.
 use mathlib.Core.Path.{◌∙◌}
 use native.Mathlib.Omega.{arith}
-use borrow.Author.Rules.{rules}
 use borrow.Author.Tests.{not-false}
 use Rattle.vectors.specs.Passes.{warp_agrees}
 use Rattle.vectors.proofs.Sides.{unfit_of}

@@ -1,5 +1,4 @@
 -- `vectors::shapes::area` meets its contract. Assumes nothing.
-use borrow.Author.Rules.{rules}
 use Rattle.lists.proofs.Every.{sides_fit}
 use Rattle.vectors.proofs.shapes.area.Goals as goal
 

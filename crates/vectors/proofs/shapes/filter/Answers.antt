@@ -4,7 +4,6 @@ use mathlib.Core.Path.{subst}
 use native.Mathlib.Omega.{arith}
 use Rattle.vectors.specs.Shapes.{Filtered}
 use Rattle.vectors.proofs.Sides.{filter_none, filter_large, filter_even, filter_some}
-use borrow.Author.Rules.{rules}
 use Rattle.vectors.proofs.shapes.filter.Goals as goal
 
 pub returns-then-v-gt31 : goal.returns-then-v-gt31

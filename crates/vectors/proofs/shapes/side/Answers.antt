@@ -2,7 +2,6 @@
 use mathlib.Core.Path.{◌∙◌}
 use native.Mathlib.Omega.{arith}
 use Rattle.vectors.proofs.Sides.{side_in, side_out}
-use borrow.Author.Rules.{rules}
 use Rattle.vectors.proofs.shapes.side.Goals as goal
 
 pub returns-then-v-le4096 : goal.returns-then-v-le4096

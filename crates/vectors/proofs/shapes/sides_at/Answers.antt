@@ -3,7 +3,6 @@ use Prim.Native.Nat.{ℕ, ◌*◌}
 use mathlib.Core.Path.{sym, ap₂, subst, ◌∙◌}
 use Rattle.vectors.specs.Shapes.{Fitting}
 use Rattle.vectors.proofs.Sides.{no_side, some_side, no_shape_left, no_shape_right, no_shape_large, unfit, fit}
-use borrow.Author.Rules.{rules}
 use Rattle.vectors.proofs.shapes.sides_at.Goals as goal
 
 pub returns-then-w-eq0 : goal.returns-then-w-eq0

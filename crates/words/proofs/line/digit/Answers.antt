@@ -1,7 +1,6 @@
 -- `words::line::digit` meets its contract. Assumes nothing.
 use native.Mathlib.Omega.{arith}
 use Rattle.words.proofs.Reading.{digit_decimal, digit_letter, digit_low, digit_middle, digit_high}
-use borrow.Author.Rules.{rules}
 use Rattle.words.proofs.line.digit.Goals as goal
 
 pub returns-in-48-to-57 : goal.returns-in-48-to-57

@@ -4,7 +4,6 @@ use lib.ListN.{length}
 use Rattle.lists.proofs.Cases.{pick_true, pick_false}
 use Rattle.words.specs.Reading.{closed_of, closed_in}
 use Rattle.words.proofs.Reading.{is_put_lem, no_room, not_open}
-use borrow.Author.Rules.{rules}
 use Rattle.words.proofs.line.Line.closed.Goals as goal
 
 pub returns-then-at-words : goal.returns-then-at-words

@@ -7,7 +7,6 @@ use Rattle.lists.proofs.Cases.{pick_true}
 use Rattle.words.specs.Reading.{line_after, words_after}
 use Rattle.words.specs.declared.line.Line.{Line}
 use Rattle.words.proofs.Reading.{at_blank, at_hash, at_digit}
-use borrow.Author.Rules.{rules}
 use Rattle.words.proofs.line.Line.with.Goals as goal
 
 pub returns-then-self : goal.returns-then-self
