@@ -1,12 +1,12 @@
 -- The second half of a pass of the rail (document 02, request 4): document 000's with the entries of theta struck out, under its names. Definitions only.
 use Rattle.std.specs.Prelude.{ℕ, List, Float}
+use Rattle.std.specs.Float.Ieee.{le}
 use Rattle.std.specs.Float.Ieee.Scale.{finite}
 use Rattle.lists.specs.Marked.{pick}
-use Rattle.floats.specs.F32.{◌⊕◌, 0f}
+use Rattle.floats.specs.F32.{◌⊕◌, ◌⊖◌, ◌⊗◌, ◌⊘◌, 0f}
 use Rattle.stats.specs.declared.Stats.{Stats}
 use Rattle.pose.specs.declared.Pose.{Pose}
 use Rattle.sums.specs.Sums.{error_of}
-use Rattle.solve.specs.Solve.{lambda_of, on_lambda}
 use Rattle.solve.specs.declared.Step.{Step}
 use Rattle.solve.specs.declared.Step.TheVariants.{Refuse, Move}
 use Rattle.inverse2.specs.Inverse.{inverse2_of, times2_of, dot2_of}
@@ -14,6 +14,22 @@ use Rattle.inverse2.specs.declared.Vector2.{Vector2}
 use Rattle.inverse2.specs.declared.Inverse2.{Inverse2}
 use Rattle.inverse2.specs.declared.Inverse2.TheVariants.{Exists, Missing}
 use Rattle.sums2.specs.Sums.{proj2_of, hessian2_of}
+use Rattle.slide.specs.declared.Lambda.{Lambda}
+use Rattle.slide.specs.declared.Lambda.TheVariants.{Is, Refused}
+
+-- lambda_n, lambda_d and lambda, by the products of image_proj and of template_proj with image_proj_hessian; none where lambda_d <= 0 or is not finite, or
+-- lambda is not finite
+unfoldable pub lambda_of : Stats → Float → Float → Lambda
+lambda_of s image template =
+    let lambda_n = s.img_norm ⊗ s.img_norm ⊖ image in
+    let lambda_d = s.corr ⊖ template in
+    let lambda = lambda_n ⊘ lambda_d in
+    pick (le lambda_d 0f) Refused (pick (finite lambda_d) (pick (finite lambda) (Is lambda) Refused) Refused)
+
+-- what follows lambda; 9 where there is none
+unfoldable pub on_lambda : Lambda → (Float → Step) → Step
+on_lambda (Is lambda) update = update lambda
+on_lambda Refused update = Refuse 9
 
 -- theta is 0, tx += delta[0], ty += delta[1]; 10 where tx or ty is not finite
 unfoldable pub slid_of : Pose → Vector2 → Float → Step
