@@ -1,0 +1,46 @@
+-- Lambda, test by test, and what follows it. Assumes nothing.
+use mathlib.Core.Path.{◌≡◌, sym, ap, ◌∙◌}
+use mathlib.Core.Bool.{true, false}
+use lib.Ieee.{Float, le}
+use lib.Ieee.Scale.{finite}
+use Rattle.lists.proofs.Cases.{pick_true, pick_false}
+use Rattle.floats.specs.F32.{◌⊖◌, ◌⊗◌, ◌⊘◌, 0f}
+use Rattle.stats.specs.declared.Stats.{Stats}
+use Rattle.solve.specs.declared.Step.{Step}
+use Rattle.slide.specs.Slide.{lambda_of, on_lambda}
+use Rattle.slide.specs.declared.Lambda.{Lambda}
+use Rattle.slide.specs.declared.Lambda.TheVariants.{Is, Refused}
+
+-- ---- lambda: the first test must fail and the other two pass
+module _ (s : Stats) (image template : Float) where
+  abbrev d : Float
+  d = s.corr ⊖ template
+
+  abbrev l : Float
+  l = (s.img_norm ⊗ s.img_norm ⊖ image) ⊘ d
+
+  pub not_above : le d 0f ≡ true → Refused ≡ lambda_of s image template
+  unfolding lambda_of
+  not_above e = sym (pick_true _ _ _ e)
+
+  pub divisor_endless : le d 0f ≡ false → finite d ≡ false → Refused ≡ lambda_of s image template
+  unfolding lambda_of
+  divisor_endless e f = sym (pick_false _ _ _ e ∙ pick_false _ _ _ f)
+
+  pub ratio_endless : le d 0f ≡ false → finite d ≡ true → finite l ≡ false → Refused ≡ lambda_of s image template
+  unfolding lambda_of
+  ratio_endless e f g = sym (pick_false _ _ _ e ∙ pick_true _ _ _ f ∙ pick_false _ _ _ g)
+
+  pub ratio_stands : le d 0f ≡ false → finite d ≡ true → finite l ≡ true → Is l ≡ lambda_of s image template
+  unfolding lambda_of
+  ratio_stands e f g = sym (pick_false _ _ _ e ∙ pick_true _ _ _ f ∙ pick_true _ _ _ g)
+
+-- what follows lambda
+module _ (update : Float → Step) (q : Lambda) where
+  pub on_none : q ≡ Refused → Step.Refuse 9 ≡ on_lambda q update
+  unfolding on_lambda
+  on_none e = sym (ap (λ (x : Lambda). on_lambda x update) e)
+
+  pub on_some : (l : Float) → q ≡ Is l → update l ≡ on_lambda q update
+  unfolding on_lambda
+  on_some l e = sym (ap (λ (x : Lambda). on_lambda x update) e)

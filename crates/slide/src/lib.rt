@@ -1,0 +1,95 @@
+// The second half of a pass of the rail: the inverse, lambda, and the update of the shift, from the sums over the marked pixels. Theta stays 0.
+//
+// It is lent five images one after another, and only reads them: 0 and 1 the warped gradients, 3 and 4 the centred template and image. Image 2 is
+// not looked at.
+#![tactic(auto)]
+
+ghost use Rattle.std.specs.Prelude.{◌≡◌, ◌*◌, ◌≤◌, length};
+ghost use Rattle.lists.specs.Lists.{image};
+ghost use Rattle.lists.specs.Marked.{words_for};
+ghost use Rattle.lists.specs.Premises.{InRange};
+ghost use Rattle.bits.specs.Words.{unpacked_of};
+ghost use Rattle.rows.specs.Rows.{marked_rows_of};
+ghost use Rattle.slide.specs.Slide.{lambda_of, slid_of, slide_of};
+
+use inverse2::{Inverse2, Vector2};
+use rows::{MarkedRows, Rows};
+use solve::Step;
+
+// lambda, or that there is none to go on with.
+#[derive(Clone, Copy)]
+pub enum Lambda {
+    Is(f32),
+    Refused,
+}
+
+// lambda, or none where lambda_d <= 0 or is not finite, or lambda is not finite. By the products of image_proj and of template_proj with
+// image_proj_hessian.
+fn lambda_of(s: stats::Stats, image: f32, template: f32) -> Lambda
+    ensures { result ≡ lambda_of s image template }
+{
+    let lambda_n = s.img_norm * s.img_norm - image;
+    let lambda_d = s.corr - template;
+    if lambda_d <= 0.0 {
+        return Lambda::Refused;
+    }
+    if !numbers::is_finite(lambda_d) {
+        return Lambda::Refused;
+    }
+    let lambda = lambda_n / lambda_d;
+    if !numbers::is_finite(lambda) {
+        return Lambda::Refused;
+    }
+    Lambda::Is(lambda)
+}
+
+// The shift with delta added; 10 where it is not finite.
+fn slid(at: pose::Pose, delta: Vector2, rho: f32) -> Step
+    ensures { result ≡ slid_of at delta rho }
+{
+    let tx = at.tx + delta.0;
+    let ty = at.ty + delta.1;
+    if !numbers::is_finite(tx) {
+        return Step::Refuse(10);
+    }
+    if !numbers::is_finite(ty) {
+        return Step::Refuse(10);
+    }
+    Step::Move(pose::Pose { theta: 0.0, tx, ty }, rho)
+}
+
+// The sums, the inverse, lambda and the update, with the refusals 8, 9 and 10. `rows` are the first and the last that hold a mark: no others are
+// walked.
+pub fn slide(
+    part: &[f32],
+    marks: &[u64],
+    w: usize,
+    h: usize,
+    rows: Rows,
+    at: pose::Pose,
+    s: stats::Stats,
+    rho: f32,
+) -> Step
+    requires { InRange w h × (5 * (w * h) ≤ length part.now) × (words_for (w * h) ≤ length marks.now)
+        × (marked_rows_of (unpacked_of marks.now (w * h)) w h ≡ MarkedRows.Span rows) }
+    ensures { let n = w * h in let xs = part.now in
+        result ≡ slide_of (unpacked_of marks.now n) n at (image n 0 xs) (image n 1 xs) (image n 3 xs) (image n 4 xs) s rho }
+{
+    let n = w * h;
+    let span = rows::pixels(rows, w);
+    let sums = sums2::project(part, marks, n, span.from, span.to);
+    let Inverse2::Exists(h_inv) = inverse2::try_inverse2(sums.h) else {
+        return Step::Refuse(8);
+    };
+    let ip = sums.image_proj;
+    let iph = inverse2::times2(h_inv, ip);
+    let Lambda::Is(lambda) = lambda_of(
+        s,
+        inverse2::dot2(ip, iph),
+        inverse2::dot2(sums.template_proj, iph),
+    ) else {
+        return Step::Refuse(9);
+    };
+    let error_proj = sums2::errors(part, marks, n, span.from, span.to, lambda);
+    slid(at, inverse2::times2(h_inv, error_proj), rho)
+}
