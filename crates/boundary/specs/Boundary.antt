@@ -1,12 +1,11 @@
 -- What crosses the boundary to C and Rust: an answer as a number, its pose, its matrix and its pins in lent slices, the settings and the lengths as numbers.
 -- Definitions only.
-use Rattle.std.specs.Prelude.{ℕ, ◌+◌, ◌*◌, List, [], ◌∷◌, ltb, eqb, ℤ, length, Float}
+use Rattle.std.specs.Prelude.{ℕ, ◌+◌, ◌*◌, List, [], ◌∷◌, ltb, eqb, ℤ, length, Float, None, Some}
 use Rattle.lists.specs.Lists.{put}
 use Rattle.lists.specs.Marked.{pick}
 use Rattle.floats.specs.F32.{0f}
 use Rattle.settings.specs.Sides.{resized_of}
 use Rattle.settings.specs.declared.EccConfig.{EccConfig}
-use Rattle.settings.specs.declared.LongEdge.TheVariants.{Never, To}
 use Rattle.inverse.specs.declared.Matrix3.{Matrix3}
 use Rattle.pose.specs.Pose.{told_of, number_of}
 use Rattle.pose.specs.declared.Answer.{Answer}
@@ -16,7 +15,7 @@ use Rattle.driver.specs.declared.Pins.{Pins}
 
 -- the settings; edge 0 is none
 unfoldable pub config_of : Float → ℕ → ℕ → ℕ → EccConfig
-config_of eps most filter edge = record { eps = eps; max_iter = most; gauss_filt_size = filter; resize_long_edge = pick (eqb edge 0) Never (To edge) }
+config_of eps most filter edge = record { eps = eps; max_iter = most; gauss_filt_size = filter; resize_long_edge = pick (eqb edge 0) None (Some edge) }
 
 -- n, the number of pixels after resizing; 0 where a side is 0 or above 4,096
 unfoldable pub pixel_count_of : ℕ → ℕ → ℕ → ℕ

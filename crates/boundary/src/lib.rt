@@ -11,16 +11,12 @@ ghost use Rattle.boundary.specs.Boundary.{config_of, pixel_count_of, fronted, co
 use driver::Pins;
 use inverse::Matrix3;
 use pose::{Answer, Outcome};
-use settings::{EccConfig, LongEdge};
+use settings::EccConfig;
 
 pub fn config(eps: f32, max_iter: usize, filter: usize, edge: usize) -> EccConfig
     ensures { result ≡ config_of eps max_iter filter edge }
 {
-    let choice = if edge == 0 {
-        LongEdge::Never
-    } else {
-        LongEdge::To(edge)
-    };
+    let choice = if edge == 0 { None } else { Some(edge) };
     EccConfig {
         eps,
         max_iter,

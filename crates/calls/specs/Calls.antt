@@ -1,14 +1,12 @@
 -- When a vector of a whole call agrees with the definitions: the answer, and what work and marks hold afterwards. Definitions only.
 -- The words: the kind; w, h; the lengths of both frames; eps, max_iter, the filter, whether there is an edge, the edge; how many floats and
 -- words of marks are lent; both frames; number, passes, theta, tx, ty, rho, the matrix; how many floats and words are cleared.
-use Rattle.std.specs.Prelude.{ℕ, ◌+◌, ◌%◌, Bool, ◌&&◌, not, List, [], ◌∷◌, leb, ltb, eqb, length, get_or, Float}
+use Rattle.std.specs.Prelude.{ℕ, ◌+◌, ◌%◌, Bool, ◌&&◌, not, List, [], ◌∷◌, leb, ltb, eqb, length, get_or, Float, None, Some, Option}
 use Rattle.std.specs.Float.{nan, binary32}
 use Rattle.std.specs.Float.Ieee.{neg, to_bits}
 use Rattle.lists.specs.Lists.{tab}
 use Rattle.lists.specs.Marked.{pick}
 use Rattle.floats.specs.F32.{0f, 1f}
-use Rattle.settings.specs.declared.LongEdge.{LongEdge}
-use Rattle.settings.specs.declared.LongEdge.TheVariants.{Never, To}
 use Rattle.settings.specs.declared.EccConfig.{EccConfig}
 use Rattle.checks.specs.Checks.{size_of, check_of}
 use Rattle.pose.specs.Pose.{matrix_of}
@@ -20,8 +18,8 @@ use Rattle.words.specs.Words.{stored_at, float_of, bytes_at, all_below, floats_a
 use Rattle.inverse.specs.Inverse.{entries_of}
 
 -- the settings, from the word 5 on; an edge stands behind a word that is not 0
-unfoldable pub edge_at : List ℕ → LongEdge
-edge_at words = pick (eqb (stored_at words 8) 0) Never (To (stored_at words 9))
+unfoldable pub edge_at : List ℕ → Option ℕ
+edge_at words = pick (eqb (stored_at words 8) 0) None (Some (stored_at words 9))
 
 unfoldable pub settings_at : List ℕ → EccConfig
 settings_at words = record { eps = float_of (stored_at words 5); max_iter = stored_at words 6; gauss_filt_size = stored_at words 7; resize_long_edge = edge_at words }

@@ -12,7 +12,7 @@ ghost use Rattle.calls.specs.Calls.{edge_at, settings_at, float_before, word_bef
 ghost use Rattle.calls.specs.Pins.{pin_agrees, answer_at, pins_agree, calls_agree};
 
 use pose::{Answer, Outcome};
-use settings::{EccConfig, LongEdge};
+use settings::EccConfig;
 use words::{bytes, float, same_floats, word};
 
 // Where the frames' bytes begin.
@@ -21,13 +21,13 @@ const FRAMES: usize = 12;
 // A word of the marks before the call: each of its bits is set.
 const WORD_BEFORE: u64 = 0xffff_ffff_ffff_ffff;
 
-fn edge_at(words: &[u64]) -> LongEdge
+fn edge_at(words: &[u64]) -> Option<usize>
     ensures { result ≡ edge_at words.now }
 {
     if word(words, 8) == 0 {
-        return LongEdge::Never;
+        return None;
     }
-    LongEdge::To(word(words, 9) as usize)
+    Some(word(words, 9) as usize)
 }
 
 fn settings_at(words: &[u64]) -> EccConfig

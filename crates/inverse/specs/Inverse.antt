@@ -1,12 +1,10 @@
 -- Document 01's inverse of h: P, Q, R and D in its order, and products of matrix and vector. Definitions only.
-use Rattle.std.specs.Prelude.{List, [], ◌∷◌, Float}
+use Rattle.std.specs.Prelude.{List, [], ◌∷◌, Float, None, Some, Option}
 use Rattle.std.specs.Float.Ieee.{eq, neg}
 use Rattle.lists.specs.Marked.{pick}
 use Rattle.floats.specs.F32.{◌⊕◌, ◌⊖◌, ◌⊗◌, ◌⊘◌, 0f}
 use Rattle.inverse.specs.declared.Vector3.{Vector3}
 use Rattle.inverse.specs.declared.Matrix3.{Matrix3}
-use Rattle.inverse.specs.declared.Inverse.{Inverse}
-use Rattle.inverse.specs.declared.Inverse.TheVariants.{Exists, Missing}
 
 -- the rows, each entry over D
 unfoldable pub rows_over_of : Matrix3 → Float → Float → Float → Float → Matrix3
@@ -23,13 +21,13 @@ rows_over_of h p q r d = record {
 }
 
 -- none where D is ±0
-unfoldable pub inverse_of : Matrix3 → Inverse
+unfoldable pub inverse_of : Matrix3 → Option Matrix3
 inverse_of h =
     let p = h.m11 ⊗ h.m22 ⊖ h.m21 ⊗ h.m12 in
     let q = h.m10 ⊗ h.m22 ⊖ h.m20 ⊗ h.m12 in
     let r = h.m10 ⊗ h.m21 ⊖ h.m20 ⊗ h.m11 in
     let d = (h.m00 ⊗ p ⊖ h.m01 ⊗ q) ⊕ h.m02 ⊗ r in
-    pick (eq d 0f) Missing (Exists (rows_over_of h p q r d))
+    pick (eq d 0f) None (Some (rows_over_of h p q r d))
 
 unfoldable pub dot_of : Vector3 → Vector3 → Float
 dot_of a b = a.0 ⊗ b.0 ⊕ a.1 ⊗ b.1 ⊕ a.2 ⊗ b.2

@@ -21,12 +21,6 @@ pub struct Matrix3 {
     pub m22: f32,
 }
 
-#[derive(Clone, Copy)]
-pub enum Inverse {
-    Exists(Matrix3),
-    Missing,
-}
-
 // The rows of the inverse, each entry over the determinant d.
 fn over(h: Matrix3, p: f32, q: f32, r: f32, d: f32) -> Matrix3
     ensures { result ≡ rows_over_of h p q r d }
@@ -45,7 +39,7 @@ fn over(h: Matrix3, p: f32, q: f32, r: f32, d: f32) -> Matrix3
 }
 
 // The inverse.
-pub fn try_inverse(h: Matrix3) -> Inverse
+pub fn try_inverse(h: Matrix3) -> Option<Matrix3>
     ensures { result ≡ inverse_of h }
 {
     let p = h.m11 * h.m22 - h.m21 * h.m12;
@@ -53,9 +47,9 @@ pub fn try_inverse(h: Matrix3) -> Inverse
     let r = h.m10 * h.m21 - h.m20 * h.m11;
     let d = (h.m00 * p - h.m01 * q) + h.m02 * r;
     if d == 0.0 {
-        return Inverse::Missing;
+        return None;
     }
-    Inverse::Exists(over(h, p, q, r, d))
+    Some(over(h, p, q, r, d))
 }
 
 // A dot product, added left to right.

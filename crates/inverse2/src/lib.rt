@@ -16,21 +16,15 @@ pub struct Matrix2 {
     pub m11: f32,
 }
 
-#[derive(Clone, Copy)]
-pub enum Inverse2 {
-    Exists(Matrix2),
-    Missing,
-}
-
 // The inverse.
-pub fn try_inverse2(h: Matrix2) -> Inverse2
+pub fn try_inverse2(h: Matrix2) -> Option<Matrix2>
     ensures { result ≡ inverse2_of h }
 {
     let d = h.m00 * h.m11 - h.m10 * h.m01;
     if d == 0.0 {
-        return Inverse2::Missing;
+        return None;
     }
-    Inverse2::Exists(Matrix2 {
+    Some(Matrix2 {
         m00: h.m11 / d,
         m01: -h.m01 / d,
         m10: -h.m10 / d,

@@ -1,14 +1,16 @@
--- A list copied to the front of another, an element at a turn: `none` is the loop's start, `more` its turn, `all` its end. And a list stored
--- element by element from a place on. Assumes nothing.
+-- A list copied to the front of another, an element at a turn: `none` is the loop's start, `more` its turn, `all` its end. A list stored
+-- element by element from a place on. And a part that was lent and has become another list, or one value throughout. Assumes nothing.
 use Prim.Native.Nat.{ℕ, ◌+◌, ◌≤◌, ◌<◌}
 use mathlib.Core.Path.{◌≡◌, sym, ap, ◌∙◌}
 use mathlib.Core.List.{List, [], ◌∷◌, ◌++◌, append-nil, append_assoc}
 use native.Mathlib.Nat.{zero-add, add-zero}
 use native.Mathlib.Numerals.{add-one}
 use native.Mathlib.Omega.{arith}
-use lib.ListN.{length, take, get_or, set, length-append}
-use lib.Seq.{length-take-le, take-suc, take-length}
-use Rattle.lists.specs.Lists.{put}
+use lib.ListN.{length, take, drop, get_or, set, length-append, replicate, length-replicate}
+use lib.Seq.{length-take-le, take-suc, take-length, drop-drop}
+use borrow.Rule.Slice.PartMut.{put_mid}
+use Rattle.lists.specs.Lists.{tab, put}
+use Rattle.lists.proofs.Grow.{tab_const}
 use Rattle.lists.proofs.Put.{put_none, set_put}
 
 module _ {A : Type 0} (xs ys : List A) where
@@ -44,3 +46,14 @@ module _ {A : Type 0} (xs : List A) (a : ℕ) where
   pub stored_is : (l : List A) → a + length l ≤ length xs → stored xs a l ≡ put xs a l
   stored_is l h =
       ap (λ (ys : List A). stored ys a l) (sym (put_none xs a)) ∙ ap (λ (k : ℕ). stored (put xs a []) k l) (sym (add-zero a)) ∙ stored_after [] l (rw add-zero h)
+
+-- ---- the k elements from a on, lent and come back as l
+module _ {A : Type 0} (xs : List A) (a k : ℕ) where
+  pub part_put : (l : List A) → length l ≡ k → put_mid a k xs l ≡ put xs a l
+  unfolding put
+  part_put l e = ap (λ (t : List A). take a xs ++ (l ++ t)) (drop-drop k a xs ∙ ap (λ (n : ℕ). drop (a + n) xs) (sym e))
+
+  -- as one value
+  pub part_filled : (n m : ℕ) (v : A) (l : List A) → l ≡ replicate m v → m ≡ n → n ≡ k → put_mid a k xs l ≡ put xs a (tab n (λ _. v))
+  part_filled n m v l is e f =
+      part_put l (ap length is ∙ length-replicate m v ∙ e ∙ f) ∙ ap (put xs a) (is ∙ ap (λ (q : ℕ). replicate q v) e ∙ sym (tab_const n v))

@@ -1,4 +1,5 @@
 -- How a pass ends, by its tests in their order: the count of the marks, then, once the statistics are known, the others. Assumes nothing.
+use Rattle.std.specs.Prelude.{None, Option}
 use Prim.Native.Nat.{ℕ, ◌*◌, ◌≤◌, ◌<◌}
 use mathlib.Core.Path.{◌≡◌, sym, ◌∙◌}
 use mathlib.Core.Bool.{true, false}
@@ -11,8 +12,6 @@ use Rattle.lists.specs.Marked.{pick}
 use Rattle.lists.proofs.Cases.{pick_true, pick_false}
 use Rattle.marks.specs.Marks.{count_on}
 use Rattle.rows.specs.Rows.{marked_rows_of}
-use Rattle.rows.specs.declared.MarkedRows.{MarkedRows}
-use Rattle.rows.specs.declared.MarkedRows.TheVariants.{Bare}
 use Rattle.rows.proofs.Between.{bare_count}
 use Rattle.pose.specs.Pose.{affine_from_theta_tx_ty}
 use Rattle.pose.specs.declared.Map.{Map}
@@ -76,5 +75,5 @@ module _ (template input gx gy : List Float) (w h : ℕ) (eps : Float) (p : Pose
     enough_marks l r q = q ∙ sym (pick_false _ _ _ (rw (← is_found) (le-ltb found 16 l))) ∙ by_map
 
   -- no row holds a mark: none is counted
-  pub no_marks : (rows : MarkedRows) → rows ≡ marked_rows_of (marks_of map w h) w h → rows ≡ Bare → Step.Refuse 5 ≡ pass_of template input gx gy w h eps p last
+  pub no_marks : (rows : Option Rows) → rows ≡ marked_rows_of (marks_of map w h) w h → rows ≡ None → Step.Refuse 5 ≡ pass_of template input gx gy w h eps p last
   no_marks rows e k = few_marks 0 (sym (bare_count (marks_of map w h) w h (sym e ∙ k))) (omega arith)

@@ -5,7 +5,7 @@
 // follows walks these rows and no others.
 #![tactic(auto)]
 
-ghost use Rattle.std.specs.Prelude.{◌≡◌, ◌*◌, ◌≤◌};
+ghost use Rattle.std.specs.Prelude.{◌≡◌, ◌*◌, ◌≤◌, Some};
 ghost use Rattle.lists.specs.Lists.{put, image, set_image};
 ghost use Rattle.lists.specs.Premises.{InRange, Lent};
 ghost use Rattle.marks.specs.Marks.{count_on};
@@ -20,7 +20,7 @@ ghost use Rattle.solve.specs.Solve.{solve_of};
 ghost use Rattle.pass.specs.Pass.{pass_of, weighed_of};
 ghost use Rattle.pass.specs.Kept.{Kept, KeptMarks, CentredWork};
 
-use rows::{MarkedRows, Rows};
+use rows::Rows;
 use solve::Step;
 use verdict::Verdict;
 use warp::Found;
@@ -64,7 +64,7 @@ fn solve_work(
     s: stats::Stats,
     rho: f32,
 ) -> Step
-    requires { InRange w h × Lent (w * h) work.old marks.now × (marked_rows_of (unpacked_of marks.now (w * h)) w h ≡ MarkedRows.Span rows)
+    requires { InRange w h × Lent (w * h) work.old marks.now × (marked_rows_of (unpacked_of marks.now (w * h)) w h ≡ Some rows)
         × Within at.theta 2 1 }
     ensures work_after { work.new ≡ set_image (w * h) 11 (image (w * h) 11 work.new) work.old }
     ensures result_value { let n = w * h in let xs = work.old in
@@ -87,7 +87,7 @@ fn weigh(
     rows: Rows,
     found: usize,
 ) -> Step
-    requires { InRange w h × Lent (w * h) work.old marks.now × (marked_rows_of (unpacked_of marks.now (w * h)) w h ≡ MarkedRows.Span rows)
+    requires { InRange w h × Lent (w * h) work.old marks.now × (marked_rows_of (unpacked_of marks.now (w * h)) w h ≡ Some rows)
         × (found ≡ count_on (unpacked_of marks.now (w * h)) (w * h)) × Within at.theta 2 1 }
     ensures result_value { let n = w * h in let xs = work.old in
         result ≡ weighed_of (unpacked_of marks.now n) (image n 8 xs) (image n 5 xs) (image n 6 xs) (image n 7 xs) w h eps at last }
@@ -120,7 +120,7 @@ pub fn pass(
     let map = pose::affine_from_theta_tx_ty(at);
     let found = warp_work(work, marks, map, w, h);
     let marked = found.rows;
-    let MarkedRows::Span(rows) = marked else {
+    let Some(rows) = marked else {
         return Step::Refuse(5);
     };
     if found.count < 16 {

@@ -1,12 +1,10 @@
 -- The records of document 01: a 4-byte length of the rest, a 2-byte kind, a body, little-endian. What stands at the start of a list of bytes, which
 -- may end before the record does. Definitions only.
-use Rattle.std.specs.Prelude.{ℕ, ◌+◌, ◌-◌, ◌*◌, List, ltb, eqb, length, get_or}
+use Rattle.std.specs.Prelude.{ℕ, ◌+◌, ◌-◌, ◌*◌, List, ltb, eqb, length, get_or, None, Some, Option}
 use Rattle.std.specs.Float.{binary32}
 use Rattle.std.specs.Float.Ieee.{of_bits}
 use Rattle.lists.specs.Marked.{pick}
 use Rattle.settings.specs.declared.EccConfig.{EccConfig}
-use Rattle.settings.specs.declared.LongEdge.{LongEdge}
-use Rattle.settings.specs.declared.LongEdge.TheVariants.{Never, To}
 use Rattle.records.specs.declared.Record.{Record}
 use Rattle.records.specs.declared.Record.TheVariants.{More, Settings, Frame, Large, Other, Broken}
 
@@ -18,8 +16,8 @@ unfoldable pub word_at : List ℕ → ℕ → ℕ
 word_at s i = half_at s i + 65536 * half_at s (i + 2)
 
 -- edge: 0 for none
-unfoldable pub choice_of : ℕ → LongEdge
-choice_of n = pick (eqb n 0) Never (To n)
+unfoldable pub choice_of : ℕ → Option ℕ
+choice_of n = pick (eqb n 0) None (Some n)
 
 -- eps bits u32, max_iter u32, filter u16, edge u32
 unfoldable pub config_at : List ℕ → EccConfig

@@ -7,7 +7,7 @@
 ghost use Rattle.std.specs.Prelude.{◌≡◌, ◌+◌, ◌≤◌, ◌<◌, length};
 ghost use Rattle.records.specs.Reading.{half_at, word_at, choice_of, config_at, settings_of, frame_of, body_of, next_of};
 
-use settings::{EccConfig, LongEdge};
+use settings::EccConfig;
 
 // What stands at the start of some bytes.
 #[derive(Clone, Copy)]
@@ -49,14 +49,10 @@ fn word_at(s: &[u8], at: usize) -> usize
 }
 
 // The resize choice: 0 stands for none.
-fn choice(edge: usize) -> LongEdge
+fn choice(edge: usize) -> Option<usize>
     ensures { result ≡ choice_of edge }
 {
-    if edge == 0 {
-        LongEdge::Never
-    } else {
-        LongEdge::To(edge)
-    }
+    if edge == 0 { None } else { Some(edge) }
 }
 
 // The settings of a record of kind 1.

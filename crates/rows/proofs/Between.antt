@@ -1,4 +1,5 @@
 -- A sum over all pixels is one over the marked rows. Assumes nothing.
+use Rattle.std.specs.Prelude.{None, Some}
 use Prim.Native.Nat.{ℕ, zero, suc, ◌+◌, ◌-◌, ◌*◌, ◌/◌, ◌%◌, ◌≤◌, ◌<◌}
 use mathlib.Core.Path.{◌≡◌, sym, ap, ◌∙◌, subst}
 use mathlib.Core.Bool.{false}
@@ -12,7 +13,6 @@ use Rattle.bits.specs.declared.Stretch.{Stretch}
 use Rattle.rows.specs.Rows.{row_marked, marked_rows_of, Told, LeastAndGreatest}
 use Rattle.rows.specs.Between.{pixels_of, Between, MarksBetween, FoldBetween}
 use Rattle.rows.specs.declared.Rows.{Rows}
-use Rattle.rows.specs.declared.MarkedRows.TheVariants.{Bare, Span}
 use Rattle.rows.proofs.Turns.{row_bare, least_and_greatest}
 
 some_wide : (w k i : ℕ) → i < k * w → 0 < w
@@ -39,7 +39,7 @@ marks_between ms w h rows e =
     }
 
 -- what the functions above ask of the rows that were found: that they lie within the image, and their pixels as they are worked out
-module _ (ms : List ℕ) (w h : ℕ) (rows : Rows) (e : marked_rows_of ms w h ≡ Span rows) where
+module _ (ms : List ℕ) (w h : ℕ) (rows : Rows) (e : marked_rows_of ms w h ≡ Some rows) where
   pub rows_order : (rows.first ≤ rows.last) × (rows.last < h)
   unfolding LeastAndGreatest Told
   rows_order = let t = subst (Told ms w h) e (least_and_greatest ms w h) in (t.2, t.3)
@@ -49,7 +49,7 @@ module _ (ms : List ℕ) (w h : ℕ) (rows : Rows) (e : marked_rows_of ms w h �
   span_between r q = subst (λ (r : Stretch). Between ms (w * h) r.from r.to) (sym q) (marks_between ms w h rows e)
 
 -- where no row holds a mark none is counted
-pub bare_count : (ms : List ℕ) (w h : ℕ) → marked_rows_of ms w h ≡ Bare → count_on ms (w * h) ≡ 0
+pub bare_count : (ms : List ℕ) (w h : ℕ) → marked_rows_of ms w h ≡ None → count_on ms (w * h) ≡ 0
 unfolding LeastAndGreatest Told count_on
 bare_count ms w h e =
     let t = subst (Told ms w h) e (least_and_greatest ms w h) in

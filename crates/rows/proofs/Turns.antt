@@ -1,4 +1,5 @@
 -- The rows that hold a mark: start and turns of their definition, that it gives the least and the greatest, and what a row's mark says of its pixels. Assumes nothing.
+use Rattle.std.specs.Prelude.{None, Some, Option}
 use Prim.Native.Nat.{ℕ, zero, suc, ◌+◌, ◌-◌, ◌*◌, ◌≤◌, ◌<◌}
 use mathlib.Core.Path.{◌≡◌, refl, sym, ap, ap₂, ◌∙◌, subst}
 use mathlib.Core.Bool.{Bool, true, false, true≢false}
@@ -20,8 +21,6 @@ use Rattle.bits.proofs.Scan.{lt_or_le}
 use Rattle.bits.proofs.Stretches.{stretch_bare, stretch_full}
 use Rattle.rows.specs.Rows.{row_marked, with_row, marked_rows_of, Told, LeastAndGreatest}
 use Rattle.rows.specs.declared.Rows.{Rows}
-use Rattle.rows.specs.declared.MarkedRows.{MarkedRows}
-use Rattle.rows.specs.declared.MarkedRows.TheVariants.{Bare, Span}
 
 -- ---- one row and its pixels
 module _ (ms : List ℕ) (w y : ℕ) where
@@ -52,13 +51,13 @@ row_told ws n w y fits r o = by (lt_or_le r.from (y * w + w))
     by (inr l) = le-ltb r.from _ l ∙ sym (row_none (unpacked_of ws n) w y (λ x h. stretch_bare ws n (y * w + w) (y * w) r fits o (y * w + x) (omega arith) (omega arith)))
 
 -- a first marked row is the first and the last
-row_alone : (y : ℕ) → with_row Bare y ≡ Span (record { first = y; last = y })
+row_alone : (y : ℕ) → with_row None y ≡ Some (record { first = y; last = y })
 unfolding with_row
-row_alone y = ap₂ (λ (a b : ℕ). Span (record { first = a; last = b })) (omega arith) (omega arith)
+row_alone y = ap₂ (λ (a b : ℕ). Some (record { first = a; last = b })) (omega arith) (omega arith)
 
 -- ---- row after row
 module _ (ms : List ℕ) (w : ℕ) where
-  pub rows_start : marked_rows_of ms w 0 ≡ Bare
+  pub rows_start : marked_rows_of ms w 0 ≡ None
   unfolding marked_rows_of
   rows_start = refl
 
@@ -80,13 +79,13 @@ module _ (ms : List ℕ) (w : ℕ) where
       let row : row_marked ms w y ≡ row_marked ns w y =
       ap (ltb 0) (over_agree (λ x. on ms (y * w + x)) (λ x. on ns (y * w + x)) (λ k i. k + 1) (λ k i. k + 1) 0 w (λ x l. same (y * w + x) (omega arith)) (λ t i l m. refl)) in
       let rest = rows_agree_lem ns y (λ i l. same i (omega arith)) in
-      ap₂ (λ (b : Bool) (q : MarkedRows). pick b (with_row q y) q) row rest
+      ap₂ (λ (b : Bool) (q : Option Rows). pick b (with_row q y) q) row rest
 
   -- ---- the least and the greatest
-  told_marked : (y : ℕ) (q : MarkedRows) → Told ms w y q → row_marked ms w y ≡ true → Told ms w (y + 1) (with_row q y)
+  told_marked : (y : ℕ) (q : Option Rows) → Told ms w y q → row_marked ms w y ≡ true → Told ms w (y + 1) (with_row q y)
   unfolding Told with_row
-  told_marked y Bare t e = subst (Told ms w (y + 1)) (sym (row_alone y)) (e, e, omega arith, omega arith, t, λ z h l. absurd (omega arith))
-  told_marked y (Span r) t e = (t.0, e, omega (arith, t.2, t.3), omega arith, t.4, λ z h l. absurd (omega arith))
+  told_marked y None t e = subst (Told ms w (y + 1)) (sym (row_alone y)) (e, e, omega arith, omega arith, t, λ z h l. absurd (omega arith))
+  told_marked y (Some r) t e = (t.0, e, omega (arith, t.2, t.3), omega arith, t.4, λ z h l. absurd (omega arith))
 
   -- no row before h, nor the row h
   up_to : (y : ℕ) (P : ℕ → Type 0) → ((z : ℕ) → P z → z < y → row_marked ms w z ≡ false) → row_marked ms w y ≡ false → (z : ℕ) → P z → z < y + 1 → row_marked ms w z ≡ false
@@ -96,12 +95,12 @@ module _ (ms : List ℕ) (w : ℕ) where
       by (inl q) = ap (row_marked ms w) q ∙ e
       by (inr q) = t z p q
 
-  told_passed : (y : ℕ) (q : MarkedRows) → Told ms w y q → row_marked ms w y ≡ false → Told ms w (y + 1) q
+  told_passed : (y : ℕ) (q : Option Rows) → Told ms w y q → row_marked ms w y ≡ false → Told ms w (y + 1) q
   unfolding Told
-  told_passed y Bare t e = λ z l. up_to y (λ _. Unit {0}) (λ z _ l. t z l) e z tt l
-  told_passed y (Span r) t e = (t.0, t.1, t.2, omega (arith, t.3), t.4, up_to y (λ z. r.last < z) t.5 e)
+  told_passed y None t e = λ z l. up_to y (λ _. Unit {0}) (λ z _ l. t z l) e z tt l
+  told_passed y (Some r) t e = (t.0, t.1, t.2, omega (arith, t.3), t.4, up_to y (λ z. r.last < z) t.5 e)
 
-  told_none : Told ms w 0 Bare
+  told_none : Told ms w 0 None
   unfolding Told
   told_none = λ y l. absurd (omega arith)
 
@@ -112,18 +111,18 @@ module _ (ms : List ℕ) (w : ℕ) where
       (λ e. subst (Told ms w (y + 1)) (sym (rows_passed y e)) (told_passed y _ (told y) e)))
 
   -- ---- rows behind the first marked one: the span opens there
-  abbrev Opens : ℕ → MarkedRows → Type 0
-  Opens a Bare = ⊥
-  Opens a (Span r) = r.first ≡ a
+  abbrev Opens : ℕ → Option Rows → Type 0
+  Opens a None = ⊥
+  Opens a (Some r) = r.first ≡ a
 
-  opens_with : (a y : ℕ) (q : MarkedRows) → Opens a q → with_row q y ≡ Span (record { first = a; last = y })
+  opens_with : (a y : ℕ) (q : Option Rows) → Opens a q → with_row q y ≡ Some (record { first = a; last = y })
   unfolding with_row
-  opens_with a y Bare o = absurd o
-  opens_with a y (Span r) o = ap (λ (k : ℕ). Span (record { first = k; last = y })) o
+  opens_with a y None o = absurd o
+  opens_with a y (Some r) o = ap (λ (k : ℕ). Some (record { first = k; last = y })) o
 
-  module _ (a : ℕ) (bare : marked_rows_of ms w a ≡ Bare) (marked : row_marked ms w a ≡ true) where
-    pub rows_first : marked_rows_of ms w (a + 1) ≡ Span (record { first = a; last = a })
-    rows_first = rows_marked a marked ∙ ap (λ (q : MarkedRows). with_row q a) bare ∙ row_alone a
+  module _ (a : ℕ) (bare : marked_rows_of ms w a ≡ None) (marked : row_marked ms w a ≡ true) where
+    pub rows_first : marked_rows_of ms w (a + 1) ≡ Some (record { first = a; last = a })
+    rows_first = rows_marked a marked ∙ ap (λ (q : Option Rows). with_row q a) bare ∙ row_alone a
 
     opens : (k : ℕ) → Opens a (marked_rows_of ms w (a + 1 + k))
     opens zero =
@@ -136,7 +135,7 @@ module _ (ms : List ℕ) (w : ℕ) where
         (λ e. subst (Opens a) (sym (rows_marked y e ∙ opens_with a y _ (opens k))) refl)
         (λ e. subst (Opens a) (sym (rows_passed y e)) (opens k)))
 
-    pub rows_last : (y : ℕ) → a < y → row_marked ms w y ≡ true → marked_rows_of ms w (y + 1) ≡ Span (record { first = a; last = y })
+    pub rows_last : (y : ℕ) → a < y → row_marked ms w y ≡ true → marked_rows_of ms w (y + 1) ≡ Some (record { first = a; last = y })
     rows_last y l e =
         let q : a + 1 + (y - (a + 1)) ≡ y = omega arith in
         rows_marked y e ∙ opens_with a y _ (subst (λ (j : ℕ). Opens a (marked_rows_of ms w j)) q (opens (y - (a + 1))))

@@ -1,11 +1,10 @@
 -- A SUM OVER ALL PIXELS IS ONE OVER THE MARKED ROWS: outside of them no pixel is marked, and unmarked pixels are passed by. Definitions only.
-use Rattle.std.specs.Prelude.{ℕ, ◌+◌, ◌-◌, ◌*◌, ◌≤◌, ◌<◌, ◌≡◌, false, List, take, drop}
+use Rattle.std.specs.Prelude.{ℕ, ◌+◌, ◌-◌, ◌*◌, ◌≤◌, ◌<◌, ◌≡◌, false, List, take, drop, Some}
 use Rattle.lists.specs.Marked.{over_marked}
 use Rattle.marks.specs.Marks.{on}
 use Rattle.bits.specs.declared.Stretch.{Stretch}
 use Rattle.rows.specs.Rows.{marked_rows_of}
 use Rattle.rows.specs.declared.Rows.{Rows}
-use Rattle.rows.specs.declared.MarkedRows.TheVariants.{Span}
 
 -- the pixels of these rows: from the first one's first on, before the row that follows the last
 unfoldable pub pixels_of : Rows → ℕ → Stretch
@@ -24,7 +23,7 @@ pub record Between (marks : List ℕ) (n from to : ℕ) : Type 0 where
 
 -- the marks of an image lie between its first and its last marked row
 unfoldable pub MarksBetween : Type 0
-MarksBetween = (marks : List ℕ) (w h : ℕ) (rows : Rows) → marked_rows_of marks w h ≡ Span rows → Between marks (w * h) (pixels_of rows w).from (pixels_of rows w).to
+MarksBetween = (marks : List ℕ) (w h : ℕ) (rows : Rows) → marked_rows_of marks w h ≡ Some rows → Between marks (w * h) (pixels_of rows w).from (pixels_of rows w).to
 
 -- THE LAW, for any fold: at `from` it is still what it began with, and at `to` it is what it is over all n pixels
 unfoldable pub FoldBetween : Type 1

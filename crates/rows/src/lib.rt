@@ -1,7 +1,7 @@
 // Which rows hold a mark: none of them, or the first and the last that do. What follows the warp walks these rows and no others.
 #![tactic(auto)]
 
-ghost use Rattle.std.specs.Prelude.{◌≡◌, true, ℕ, ◌+◌, ◌*◌, ◌≤◌, ◌<◌, length};
+ghost use Rattle.std.specs.Prelude.{◌≡◌, true, ℕ, ◌+◌, ◌*◌, ◌≤◌, ◌<◌, length, Some, None};
 ghost use Rattle.lists.specs.Premises.{InRange};
 ghost use Rattle.lists.specs.Marked.{words_for};
 ghost use Rattle.bits.specs.Words.{unpacked_of};
@@ -17,13 +17,6 @@ pub struct Rows {
     pub last: usize,
 }
 
-// No row holds a mark, or these are the first and the last that do.
-#[derive(Clone, Copy)]
-pub enum MarkedRows {
-    Bare,
-    Span(Rows),
-}
-
 // Whether the row y holds a mark.
 fn row_marked(words: &[u64], w: usize, y: usize) -> bool
     requires { (w ≤ 4096) × (y < 4096) × (y * w + w ≤ 64 * length words.now) }
@@ -37,34 +30,30 @@ fn row_marked(words: &[u64], w: usize, y: usize) -> bool
 
 // The last row that holds a mark, where `first` is the first that does: looked for from below.
 fn last_row(words: &[u64], w: usize, h: usize, first: usize) -> usize
-    requires { InRange w h × (words_for (w * h) ≤ length words.now) × (first < h) × (marked_rows_of (unpacked_of words.now (w * h)) w first ≡ MarkedRows.Bare)
+    requires { InRange w h × (words_for (w * h) ≤ length words.now) × (first < h) × (marked_rows_of (unpacked_of words.now (w * h)) w first ≡ None)
         × (row_marked (unpacked_of words.now (w * h)) w first ≡ true) }
-    ensures { marked_rows_of (unpacked_of words.now (w * h)) w h ≡ MarkedRows.Span (record { first = first; last = result }) }
+    ensures { marked_rows_of (unpacked_of words.now (w * h)) w h ≡ Some (record { first = first; last = result }) }
 {
-    let mut y = h - 1;
-    while first < y {
+    for y in (first + 1..h).rev() {
         if row_marked(words, w, y) {
             return y;
         }
-        y -= 1;
     }
     first
 }
 
-// The first and the last of h rows of w pixels each that hold a mark.
-pub fn marked_rows(words: &[u64], w: usize, h: usize) -> MarkedRows
+// The first and the last of h rows of w pixels each that hold a mark, if there is one.
+pub fn marked_rows(words: &[u64], w: usize, h: usize) -> Option<Rows>
     requires { InRange w h × (words_for (w * h) ≤ length words.now) }
     ensures { result ≡ marked_rows_of (unpacked_of words.now (w * h)) w h }
 {
-    let mut y = 0;
-    while y < h {
+    for y in 0..h {
         if row_marked(words, w, y) {
             let last = last_row(words, w, h, y);
-            return MarkedRows::Span(Rows { first: y, last });
+            return Some(Rows { first: y, last });
         }
-        y += 1;
     }
-    MarkedRows::Bare
+    None
 }
 
 // The pixels of these rows.

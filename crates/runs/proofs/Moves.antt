@@ -1,5 +1,6 @@
 -- How a pass ends: with a refusal from 5 to 10, a finite correlation, or a pose to go on with, whose theta is from -2 to 2. Said of any set of numbers that has 5, 6 and 8 to 10,
 -- and 7 or a finite correlation. Assumes nothing.
+use Rattle.std.specs.Prelude.{None, Some, Option}
 use Prim.Native.Nat.{ℕ}
 use mathlib.Core.Path.{◌≡◌, sym, ◌∙◌, subst}
 use mathlib.Core.Bool.{true, true≢false}
@@ -14,8 +15,6 @@ use Rattle.floats.specs.Bound.{Within}
 use Rattle.pose.specs.declared.Pose.{Pose}
 use Rattle.pose.proofs.Tests.{pose_theta}
 use Rattle.inverse.specs.declared.Vector3.{Vector3}
-use Rattle.inverse.specs.declared.Inverse.{Inverse}
-use Rattle.inverse.specs.declared.Inverse.TheVariants.{Exists, Missing}
 use Rattle.solve.specs.Solve.{moved_of, update_of, solve_of}
 use Rattle.solve.specs.declared.Step.{Step}
 use Rattle.solve.specs.declared.Step.TheVariants.{Refuse, Stop, Move}
@@ -50,10 +49,10 @@ module _ (N : ℕ → Type 0) (among : Refusals N) where
     moved_sound delta = pick_where (Sound N) _ _ _ (λ e. (pose_theta (p.theta ⊕ delta.0) (p.tx ⊕ delta.1) (p.ty ⊕ delta.2) e, f)) among.ten
 
     module _ (marks : List ℕ) (n : ℕ) (j0 j1 j2 tz iz : List Float) (s : Stats) where
-      update_sound : (i : Inverse) → Sound N (update_of marks n p j0 j1 j2 tz iz s rho i)
+      update_sound : (i : Option Matrix3) → Sound N (update_of marks n p j0 j1 j2 tz iz s rho i)
       unfolding update_of Sound
-      update_sound Missing = among.eight
-      update_sound (Exists h) =
+      update_sound None = among.eight
+      update_sound (Some h) =
           pick_both (Sound N) _ _ _ among.nine
           (pick_both (Sound N) _ _ _ (pick_both (Sound N) _ _ _ (moved_sound _) among.nine) among.nine)
 

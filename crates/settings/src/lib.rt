@@ -10,19 +10,13 @@ ghost use Rattle.floats.specs.Bound.{UpTo};
 ghost use Rattle.settings.specs.Settings.{defaults_of, edge_of};
 ghost use Rattle.settings.specs.Sides.{scaled_side_of, side_of, resized_of};
 
-// The resize choice: none, or an edge length for the longer side. Length 0 means none.
-#[derive(Clone, Copy)]
-pub enum LongEdge {
-    Never,
-    To(usize),
-}
-
 #[derive(Clone, Copy)]
 pub struct EccConfig {
     pub eps: f32,
     pub max_iter: usize,
     pub gauss_filt_size: usize,
-    pub resize_long_edge: LongEdge,
+    // None, or an edge length for the longer side. Length 0 means none.
+    pub resize_long_edge: Option<usize>,
 }
 
 impl EccConfig {
@@ -39,7 +33,7 @@ impl EccConfig {
             eps: 0.0001,
             max_iter: 100,
             gauss_filt_size: 1,
-            resize_long_edge: LongEdge::To(350),
+            resize_long_edge: Some(350),
         }
     }
 
@@ -47,11 +41,7 @@ impl EccConfig {
     pub fn edge(self) -> usize
         ensures { result ≡ edge_of self }
     {
-        let choice = self.resize_long_edge;
-        match choice {
-            LongEdge::Never => 0,
-            LongEdge::To(n) => n,
-        }
+        self.resize_long_edge.unwrap_or(0)
     }
 }
 

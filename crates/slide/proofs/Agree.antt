@@ -1,4 +1,5 @@
 -- Only marked pixels of the centred images count: where those agree, a pass of the rail ends the same. Assumes nothing.
+use Rattle.std.specs.Prelude.{None, Some, Option}
 use Prim.Native.Nat.{ℕ}
 use mathlib.Core.Path.{◌≡◌, refl}
 use mathlib.Core.List.{List}
@@ -9,8 +10,6 @@ use Rattle.pose.specs.declared.Pose.{Pose}
 use Rattle.sums.specs.Sums.{error_of}
 use Rattle.sums.proofs.Agree.{product_agree, error_agree}
 use Rattle.inverse2.specs.Inverse.{inverse2_of}
-use Rattle.inverse2.specs.declared.Inverse2.{Inverse2}
-use Rattle.inverse2.specs.declared.Inverse2.TheVariants.{Exists, Missing}
 use Rattle.sums2.specs.Sums.{proj2_of, hessian2_of}
 use Rattle.slide.specs.Slide.{shift_of, slide_of}
 
@@ -25,10 +24,10 @@ module _ (marks : List ℕ) (n : ℕ) (p : Pose) (gx gy tz tz' iz iz' : List Flo
   error_proj : (l : Float) → proj2_of marks n gx gy (error_of n l tz iz) ≡ proj2_of marks n gx gy (error_of n l tz' iz')
   error_proj l = proj_agree _ _ (error_agree marks n l tz tz' iz iz' same_tz same_iz)
 
-  shift_agree : (r : Inverse2) → shift_of marks n p gx gy tz iz s rho r ≡ shift_of marks n p gx gy tz' iz' s rho r
+  shift_agree : (r : Option Matrix2) → shift_of marks n p gx gy tz iz s rho r ≡ shift_of marks n p gx gy tz' iz' s rho r
   unfolding shift_of
-  shift_agree Missing = refl
-  shift_agree (Exists h) = simp (proj_agree iz iz' same_iz, proj_agree tz tz' same_tz, error_proj)
+  shift_agree None = refl
+  shift_agree (Some h) = simp (proj_agree iz iz' same_iz, proj_agree tz tz' same_tz, error_proj)
 
   -- THE LAW
   pub slide_agree : slide_of marks n p gx gy tz iz s rho ≡ slide_of marks n p gx gy tz' iz' s rho

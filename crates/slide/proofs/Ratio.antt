@@ -1,4 +1,5 @@
 -- Lambda, test by test, and what follows it. Assumes nothing.
+use Rattle.std.specs.Prelude.{Some, None, Option}
 use mathlib.Core.Path.{◌≡◌, sym, ap, ◌∙◌}
 use mathlib.Core.Bool.{true, false}
 use lib.Ieee.{Float, le}
@@ -8,8 +9,6 @@ use Rattle.floats.specs.F32.{◌⊖◌, ◌⊗◌, ◌⊘◌, 0f}
 use Rattle.stats.specs.declared.Stats.{Stats}
 use Rattle.solve.specs.declared.Step.{Step}
 use Rattle.slide.specs.Slide.{lambda_of, on_lambda}
-use Rattle.slide.specs.declared.Lambda.{Lambda}
-use Rattle.slide.specs.declared.Lambda.TheVariants.{Is, Refused}
 
 -- ---- lambda: the first test must fail and the other two pass
 module _ (s : Stats) (image template : Float) where
@@ -19,28 +18,28 @@ module _ (s : Stats) (image template : Float) where
   abbrev l : Float
   l = (s.img_norm ⊗ s.img_norm ⊖ image) ⊘ d
 
-  pub not_above : le d 0f ≡ true → Refused ≡ lambda_of s image template
+  pub not_above : le d 0f ≡ true → None ≡ lambda_of s image template
   unfolding lambda_of
   not_above e = sym (pick_true _ _ _ e)
 
-  pub divisor_endless : le d 0f ≡ false → finite d ≡ false → Refused ≡ lambda_of s image template
+  pub divisor_endless : le d 0f ≡ false → finite d ≡ false → None ≡ lambda_of s image template
   unfolding lambda_of
   divisor_endless e f = sym (pick_false _ _ _ e ∙ pick_false _ _ _ f)
 
-  pub ratio_endless : le d 0f ≡ false → finite d ≡ true → finite l ≡ false → Refused ≡ lambda_of s image template
+  pub ratio_endless : le d 0f ≡ false → finite d ≡ true → finite l ≡ false → None ≡ lambda_of s image template
   unfolding lambda_of
   ratio_endless e f g = sym (pick_false _ _ _ e ∙ pick_true _ _ _ f ∙ pick_false _ _ _ g)
 
-  pub ratio_stands : le d 0f ≡ false → finite d ≡ true → finite l ≡ true → Is l ≡ lambda_of s image template
+  pub ratio_stands : le d 0f ≡ false → finite d ≡ true → finite l ≡ true → Some l ≡ lambda_of s image template
   unfolding lambda_of
   ratio_stands e f g = sym (pick_false _ _ _ e ∙ pick_true _ _ _ f ∙ pick_true _ _ _ g)
 
 -- what follows lambda
-module _ (update : Float → Step) (q : Lambda) where
-  pub on_none : q ≡ Refused → Step.Refuse 9 ≡ on_lambda q update
+module _ (update : Float → Step) (q : Option Float) where
+  pub on_none : q ≡ None → Step.Refuse 9 ≡ on_lambda q update
   unfolding on_lambda
-  on_none e = sym (ap (λ (x : Lambda). on_lambda x update) e)
+  on_none e = sym (ap (λ (x : Option Float). on_lambda x update) e)
 
-  pub on_some : (l : Float) → q ≡ Is l → update l ≡ on_lambda q update
+  pub on_some : (l : Float) → q ≡ Some l → update l ≡ on_lambda q update
   unfolding on_lambda
-  on_some l e = sym (ap (λ (x : Lambda). on_lambda x update) e)
+  on_some l e = sym (ap (λ (x : Option Float). on_lambda x update) e)

@@ -1,5 +1,5 @@
 -- The second half of a pass of the rail (document 02, request 4): document 000's with the entries of theta struck out, under its names. Definitions only.
-use Rattle.std.specs.Prelude.{ℕ, List, Float}
+use Rattle.std.specs.Prelude.{ℕ, List, Float, None, Some, Option}
 use Rattle.std.specs.Float.Ieee.{le}
 use Rattle.std.specs.Float.Ieee.Scale.{finite}
 use Rattle.lists.specs.Marked.{pick}
@@ -11,25 +11,21 @@ use Rattle.solve.specs.declared.Step.{Step}
 use Rattle.solve.specs.declared.Step.TheVariants.{Refuse, Move}
 use Rattle.inverse2.specs.Inverse.{inverse2_of, times2_of, dot2_of}
 use Rattle.inverse2.specs.declared.Vector2.{Vector2}
-use Rattle.inverse2.specs.declared.Inverse2.{Inverse2}
-use Rattle.inverse2.specs.declared.Inverse2.TheVariants.{Exists, Missing}
 use Rattle.sums2.specs.Sums.{proj2_of, hessian2_of}
-use Rattle.slide.specs.declared.Lambda.{Lambda}
-use Rattle.slide.specs.declared.Lambda.TheVariants.{Is, Refused}
 
 -- lambda_n, lambda_d and lambda, by the products of image_proj and of template_proj with image_proj_hessian; none where lambda_d <= 0 or is not finite, or
 -- lambda is not finite
-unfoldable pub lambda_of : Stats → Float → Float → Lambda
+unfoldable pub lambda_of : Stats → Float → Float → Option Float
 lambda_of s image template =
     let lambda_n = s.img_norm ⊗ s.img_norm ⊖ image in
     let lambda_d = s.corr ⊖ template in
     let lambda = lambda_n ⊘ lambda_d in
-    pick (le lambda_d 0f) Refused (pick (finite lambda_d) (pick (finite lambda) (Is lambda) Refused) Refused)
+    pick (le lambda_d 0f) None (pick (finite lambda_d) (pick (finite lambda) (Some lambda) None) None)
 
 -- what follows lambda; 9 where there is none
-unfoldable pub on_lambda : Lambda → (Float → Step) → Step
-on_lambda (Is lambda) update = update lambda
-on_lambda Refused update = Refuse 9
+unfoldable pub on_lambda : Option Float → (Float → Step) → Step
+on_lambda (Some lambda) update = update lambda
+on_lambda None update = Refuse 9
 
 -- theta is 0, tx += delta[0], ty += delta[1]; 10 where tx or ty is not finite
 unfoldable pub slid_of : Pose → Vector2 → Float → Step
@@ -40,9 +36,9 @@ slid_of p delta rho =
 
 -- 8 where h has no inverse, 9 where there is no lambda
 module _ (marks : List ℕ) (n : ℕ) (p : Pose) (gxw gyw template_zm image_zm : List Float) (s : Stats) (rho : Float) where
-  unfoldable pub shift_of : Inverse2 → Step
-  shift_of Missing = Refuse 8
-  shift_of (Exists h_inv) =
+  unfoldable pub shift_of : Option Matrix2 → Step
+  shift_of None = Refuse 8
+  shift_of (Some h_inv) =
       let image_proj = proj2_of marks n gxw gyw image_zm in
       let template_proj = proj2_of marks n gxw gyw template_zm in
       let image_proj_hessian = times2_of h_inv image_proj in

@@ -4,7 +4,7 @@
 // not looked at.
 #![tactic(auto)]
 
-ghost use Rattle.std.specs.Prelude.{◌≡◌, ◌*◌, ◌≤◌, length};
+ghost use Rattle.std.specs.Prelude.{◌≡◌, ◌*◌, ◌≤◌, length, Some};
 ghost use Rattle.lists.specs.Lists.{image};
 ghost use Rattle.lists.specs.Marked.{words_for};
 ghost use Rattle.lists.specs.Premises.{InRange};
@@ -12,35 +12,28 @@ ghost use Rattle.bits.specs.Words.{unpacked_of};
 ghost use Rattle.rows.specs.Rows.{marked_rows_of};
 ghost use Rattle.slide.specs.Slide.{lambda_of, slid_of, slide_of};
 
-use inverse2::{Inverse2, Vector2};
-use rows::{MarkedRows, Rows};
+use inverse2::Vector2;
+use rows::Rows;
 use solve::Step;
-
-// lambda, or that there is none to go on with.
-#[derive(Clone, Copy)]
-pub enum Lambda {
-    Is(f32),
-    Refused,
-}
 
 // lambda, or none where lambda_d <= 0 or is not finite, or lambda is not finite. By the products of image_proj and of template_proj with
 // image_proj_hessian.
-fn lambda_of(s: stats::Stats, image: f32, template: f32) -> Lambda
+fn lambda_of(s: stats::Stats, image: f32, template: f32) -> Option<f32>
     ensures { result ≡ lambda_of s image template }
 {
     let lambda_n = s.img_norm * s.img_norm - image;
     let lambda_d = s.corr - template;
     if lambda_d <= 0.0 {
-        return Lambda::Refused;
+        return None;
     }
     if !numbers::is_finite(lambda_d) {
-        return Lambda::Refused;
+        return None;
     }
     let lambda = lambda_n / lambda_d;
     if !numbers::is_finite(lambda) {
-        return Lambda::Refused;
+        return None;
     }
-    Lambda::Is(lambda)
+    Some(lambda)
 }
 
 // The shift with delta added; 10 where it is not finite.
@@ -71,19 +64,19 @@ pub fn slide(
     rho: f32,
 ) -> Step
     requires { InRange w h × (5 * (w * h) ≤ length part.now) × (words_for (w * h) ≤ length marks.now)
-        × (marked_rows_of (unpacked_of marks.now (w * h)) w h ≡ MarkedRows.Span rows) }
+        × (marked_rows_of (unpacked_of marks.now (w * h)) w h ≡ Some rows) }
     ensures { let n = w * h in let xs = part.now in
         result ≡ slide_of (unpacked_of marks.now n) n at (image n 0 xs) (image n 1 xs) (image n 3 xs) (image n 4 xs) s rho }
 {
     let n = w * h;
     let span = rows::pixels(rows, w);
     let sums = sums2::project(part, marks, n, span.from, span.to);
-    let Inverse2::Exists(h_inv) = inverse2::try_inverse2(sums.h) else {
+    let Some(h_inv) = inverse2::try_inverse2(sums.h) else {
         return Step::Refuse(8);
     };
     let ip = sums.image_proj;
     let iph = inverse2::times2(h_inv, ip);
-    let Lambda::Is(lambda) = lambda_of(
+    let Some(lambda) = lambda_of(
         s,
         inverse2::dot2(ip, iph),
         inverse2::dot2(sums.template_proj, iph),

@@ -1,4 +1,5 @@
 -- How a pass ends, by what the inverse and lambda come to. Assumes nothing.
+use Rattle.std.specs.Prelude.{None, Some, Option}
 use Prim.Native.Nat.{ℕ, ◌*◌, ◌≤◌}
 use mathlib.Core.Path.{◌≡◌, refl, sym, ap, ap₂, ◌∙◌}
 use mathlib.Core.Bool.{Bool, true, false}
@@ -16,23 +17,20 @@ use Rattle.stats.specs.declared.Stats.{Stats}
 use Rattle.inverse.specs.Inverse.{inverse_of, times_of, dot_of}
 use Rattle.inverse.specs.declared.Vector3.{Vector3}
 use Rattle.inverse.specs.declared.Matrix3.{Matrix3}
-use Rattle.inverse.specs.declared.Inverse.{Inverse}
 use Rattle.pose.specs.declared.Pose.{Pose}
 use Rattle.sums.specs.Sums.{steep_of, proj_of, hessian_of, error_of}
 use Rattle.sums.proofs.Rows.{length_steep}
 use Rattle.solve.specs.Solve.{moved_of, update_of, solve_of}
 use Rattle.solve.specs.declared.Step.{Step}
-use Rattle.solve.specs.declared.Lambda.{Lambda}
-use Rattle.solve.specs.declared.Lambda.TheVariants.{Is, Refused}
 
 -- ---- three tests in a row: the first must fail and the other two pass
-abbrev tested : Bool → Bool → Bool → Float → Lambda
-tested a b c l = pick a Refused (pick b (pick c (Is l) Refused) Refused)
+abbrev tested : Bool → Bool → Bool → Float → Option Float
+tested a b c l = pick a None (pick b (pick c (Some l) None) None)
 
 -- the step that comes of lambda, f where there is one
-abbrev answer : (Float → Step) → Lambda → Step
-answer f (Is l) = f l
-answer f Refused = Step.Refuse 9
+abbrev answer : (Float → Step) → Option Float → Step
+answer f (Some l) = f l
+answer f None = Step.Refuse 9
 
 by_tests : (a b c : Bool) (l : Float) (f : Float → Step) →
     answer f (tested a b c l) ≡ pick a (Step.Refuse 9) (pick b (pick c (f l) (Step.Refuse 9)) (Step.Refuse 9))
@@ -50,7 +48,7 @@ module _ (h : Matrix3) (ip tp : Vector3) (s : Stats) where
   abbrev ratio : Float
   ratio = (s.img_norm ⊗ s.img_norm ⊖ dot_of ip (times_of h ip)) ⊘ divisor
 
-  abbrev lambda_of : Lambda
+  abbrev lambda_of : Option Float
   lambda_of = tested (le divisor 0f) (finite divisor) (finite ratio) ratio
 
   -- by the products as they are worked out
@@ -64,36 +62,36 @@ module _ (h : Matrix3) (ip tp : Vector3) (s : Stats) where
     by_parts : tested (le d 0f) (finite d) (finite l) l ≡ lambda_of
     by_parts = rw (is_a, is_b, is_iph)
 
-    pub not_above : le d 0f ≡ true → Refused ≡ lambda_of
+    pub not_above : le d 0f ≡ true → None ≡ lambda_of
     not_above e = sym (pick_true _ _ _ e) ∙ by_parts
 
-    pub divisor_endless : le d 0f ≡ false → finite d ≡ false → Refused ≡ lambda_of
+    pub divisor_endless : le d 0f ≡ false → finite d ≡ false → None ≡ lambda_of
     divisor_endless e f = sym (pick_false _ _ _ e ∙ pick_false _ _ _ f) ∙ by_parts
 
-    pub ratio_endless : le d 0f ≡ false → finite d ≡ true → finite l ≡ false → Refused ≡ lambda_of
+    pub ratio_endless : le d 0f ≡ false → finite d ≡ true → finite l ≡ false → None ≡ lambda_of
     ratio_endless e f g = sym (pick_false _ _ _ e ∙ pick_true _ _ _ f ∙ pick_false _ _ _ g) ∙ by_parts
 
-    pub ratio_stands : le d 0f ≡ false → finite d ≡ true → finite l ≡ true → Is l ≡ lambda_of
+    pub ratio_stands : le d 0f ≡ false → finite d ≡ true → finite l ≡ true → Some l ≡ lambda_of
     ratio_stands e f g = sym (pick_false _ _ _ e ∙ pick_true _ _ _ f ∙ pick_true _ _ _ g) ∙ by_parts
 
 -- ---- the three ends
 module _ (ms : List ℕ) (n : ℕ) (p : Pose) (j0 j1 j2 tz iz : List Float) (s : Stats) (rho : Float) (m : Matrix3) (is_m : m ≡ hessian_of ms n j0 j1 j2) where
-  by_inverse : (r : Inverse) → r ≡ inverse_of m → update_of ms n p j0 j1 j2 tz iz s rho r ≡ solve_of ms n p j0 j1 j2 tz iz s rho
+  by_inverse : (r : Option Matrix3) → r ≡ inverse_of m → update_of ms n p j0 j1 j2 tz iz s rho r ≡ solve_of ms n p j0 j1 j2 tz iz s rho
   unfolding solve_of
   by_inverse r e = ap (update_of ms n p j0 j1 j2 tz iz s rho) (e ∙ ap inverse_of is_m)
 
-  pub no_inverse : (r : Inverse) → r ≡ inverse_of m → r ≡ Inverse.Missing → Step.Refuse 8 ≡ solve_of ms n p j0 j1 j2 tz iz s rho
+  pub no_inverse : (r : Option Matrix3) → r ≡ inverse_of m → r ≡ None → Step.Refuse 8 ≡ solve_of ms n p j0 j1 j2 tz iz s rho
   unfolding update_of
   no_inverse r e k = sym (ap (update_of ms n p j0 j1 j2 tz iz s rho) k) ∙ by_inverse r e
 
-  module _ (r : Inverse) (h : Matrix3) (is_r : r ≡ inverse_of m) (there : r ≡ Inverse.Exists h) (ip tp : Vector3) (is_ip : ip ≡ proj_of ms n j0 j1 j2 iz) (is_tp : tp ≡ proj_of ms n j0 j1 j2 tz) where
-    by_there : update_of ms n p j0 j1 j2 tz iz s rho (Inverse.Exists h) ≡ solve_of ms n p j0 j1 j2 tz iz s rho
+  module _ (r : Option Matrix3) (h : Matrix3) (is_r : r ≡ inverse_of m) (there : r ≡ Some h) (ip tp : Vector3) (is_ip : ip ≡ proj_of ms n j0 j1 j2 iz) (is_tp : tp ≡ proj_of ms n j0 j1 j2 tz) where
+    by_there : update_of ms n p j0 j1 j2 tz iz s rho (Some h) ≡ solve_of ms n p j0 j1 j2 tz iz s rho
     by_there = sym (ap (update_of ms n p j0 j1 j2 tz iz s rho) there) ∙ by_inverse r is_r
 
     abbrev to_move : Float → Step
     to_move l = moved_of p (times_of h (proj_of ms n j0 j1 j2 (error_of n l tz iz))) rho
 
-    module _ (q : Lambda) (is_q : q ≡ lambda_of h ip tp s) where
+    module _ (q : Option Float) (is_q : q ≡ lambda_of h ip tp s) where
       by_lambda : answer to_move q ≡ solve_of ms n p j0 j1 j2 tz iz s rho
       unfolding update_of
       by_lambda =
@@ -101,9 +99,9 @@ module _ (ms : List ℕ) (n : ℕ) (p : Pose) (j0 j1 j2 tz iz : List Float) (s :
           ∙ by_tests _ _ _ (ratio h (proj_of ms n j0 j1 j2 iz) (proj_of ms n j0 j1 j2 tz) s) to_move
           ∙ by_there
 
-      pub no_lambda : q ≡ Refused → Step.Refuse 9 ≡ solve_of ms n p j0 j1 j2 tz iz s rho
+      pub no_lambda : q ≡ None → Step.Refuse 9 ≡ solve_of ms n p j0 j1 j2 tz iz s rho
       no_lambda k = sym (ap (answer to_move) k) ∙ by_lambda
 
-      pub one_lambda : (l : Float) → q ≡ Is l → (ep delta : Vector3) → ep ≡ proj_of ms n j0 j1 j2 (error_of n l tz iz) → delta ≡ times_of h ep →
+      pub one_lambda : (l : Float) → q ≡ Some l → (ep delta : Vector3) → ep ≡ proj_of ms n j0 j1 j2 (error_of n l tz iz) → delta ≡ times_of h ep →
           moved_of p delta rho ≡ solve_of ms n p j0 j1 j2 tz iz s rho
       one_lambda l k ep delta ee ed = ap (λ (d : Vector3). moved_of p d rho) (ed ∙ ap (times_of h) ee) ∙ sym (ap (answer to_move) k) ∙ by_lambda

@@ -1,5 +1,5 @@
 -- The second half of document 000's pass: the inverse, lambda and the update, from the sums over the marked pixels. Definitions only.
-use Rattle.std.specs.Prelude.{ℕ, List, Float}
+use Rattle.std.specs.Prelude.{ℕ, List, Float, None, Some, Option}
 use Rattle.std.specs.Float.Ieee.{le}
 use Rattle.std.specs.Float.Ieee.Scale.{finite}
 use Rattle.lists.specs.Marked.{pick}
@@ -7,8 +7,6 @@ use Rattle.floats.specs.F32.{◌⊕◌, ◌⊖◌, ◌⊗◌, ◌⊘◌, 0f}
 use Rattle.stats.specs.declared.Stats.{Stats}
 use Rattle.inverse.specs.Inverse.{inverse_of, times_of, dot_of}
 use Rattle.inverse.specs.declared.Vector3.{Vector3}
-use Rattle.inverse.specs.declared.Inverse.{Inverse}
-use Rattle.inverse.specs.declared.Inverse.TheVariants.{Exists, Missing}
 use Rattle.pose.specs.Pose.{is_pose}
 use Rattle.pose.specs.declared.Pose.{Pose}
 use Rattle.sums.specs.Sums.{proj_of, hessian_of, error_of}
@@ -25,9 +23,9 @@ moved_of p delta rho =
 
 -- lambda_n, lambda_d and lambda; 9 where lambda_d <= 0 or is not finite, or lambda is not finite
 module _ (marks : List ℕ) (n : ℕ) (p : Pose) (j0 j1 j2 template_zm image_zm : List Float) (s : Stats) (rho : Float) where
-  unfoldable pub update_of : Inverse → Step
-  update_of Missing = Refuse 8
-  update_of (Exists h_inv) =
+  unfoldable pub update_of : Option Matrix3 → Step
+  update_of None = Refuse 8
+  update_of (Some h_inv) =
       let image_proj = proj_of marks n j0 j1 j2 image_zm in
       let template_proj = proj_of marks n j0 j1 j2 template_zm in
       let image_proj_hessian = times_of h_inv image_proj in

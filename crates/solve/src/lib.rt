@@ -4,7 +4,7 @@
 // image 5, in the rows that hold a mark. Image 2 is not looked at.
 #![tactic(auto)]
 
-ghost use Rattle.std.specs.Prelude.{◌≡◌, ◌*◌, ◌≤◌, length};
+ghost use Rattle.std.specs.Prelude.{◌≡◌, ◌*◌, ◌≤◌, length, Some, None};
 ghost use Rattle.std.specs.Float.Ieee.{le};
 ghost use Rattle.std.specs.Float.Ieee.Scale.{finite};
 ghost use Rattle.lists.specs.Lists.{image, set_image};
@@ -18,8 +18,8 @@ ghost use Rattle.rows.specs.Rows.{marked_rows_of};
 ghost use Rattle.sums.specs.Sums.{steep_of};
 ghost use Rattle.solve.specs.Solve.{moved_of, solve_of};
 
-use inverse::{Inverse, Matrix3, Vector3};
-use rows::{MarkedRows, Rows};
+use inverse::{Matrix3, Vector3};
+use rows::Rows;
 
 // How a pass ends: with a refusal, with the passes' stop at a correlation, or with the next pose and the correlation.
 #[derive(Clone, Copy)]
@@ -29,35 +29,28 @@ pub enum Step {
     Move(pose::Pose, f32),
 }
 
-// lambda, or that there is none to go on with.
-#[derive(Clone, Copy)]
-enum Lambda {
-    Is(f32),
-    Refused,
-}
-
 // lambda, or none where lambda_d <= 0 or is not finite, or lambda is not finite.
-fn lambda_of(h_inv: Matrix3, ip: Vector3, tp: Vector3, s: stats::Stats) -> Lambda
+fn lambda_of(h_inv: Matrix3, ip: Vector3, tp: Vector3, s: stats::Stats) -> Option<f32>
     ensures { result ≡ (
         let iph = times_of h_inv ip in
         let d = s.corr ⊖ dot_of tp iph in
         let lambda = (s.img_norm ⊗ s.img_norm ⊖ dot_of ip iph) ⊘ d in
-        pick (le d 0f) Lambda.Refused (pick (finite d) (pick (finite lambda) (Lambda.Is lambda) Lambda.Refused) Lambda.Refused)) }
+        pick (le d 0f) None (pick (finite d) (pick (finite lambda) (Some lambda) None) None)) }
 {
     let iph = inverse::times(h_inv, ip);
     let lambda_n = s.img_norm * s.img_norm - inverse::dot(ip, iph);
     let lambda_d = s.corr - inverse::dot(tp, iph);
     if lambda_d <= 0.0 {
-        return Lambda::Refused;
+        return None;
     }
     if !numbers::is_finite(lambda_d) {
-        return Lambda::Refused;
+        return None;
     }
     let lambda = lambda_n / lambda_d;
     if !numbers::is_finite(lambda) {
-        return Lambda::Refused;
+        return None;
     }
-    Lambda::Is(lambda)
+    Some(lambda)
 }
 
 // The pose with delta added; 10 where it leaves what a pose may be.
@@ -86,7 +79,7 @@ pub fn solve(
     rho: f32,
 ) -> Step
     requires { InRange w h × (6 * (w * h) ≤ length part.old) × (words_for (w * h) ≤ length marks.now)
-        × (marked_rows_of (unpacked_of marks.now (w * h)) w h ≡ MarkedRows.Span rows) × Within at.theta 2 1 }
+        × (marked_rows_of (unpacked_of marks.now (w * h)) w h ≡ Some rows) × Within at.theta 2 1 }
     ensures part_after { part.new ≡ set_image (w * h) 5 (image (w * h) 5 part.new) part.old }
     ensures value { result ≡ solve_of (unpacked_of marks.now (w * h)) (w * h) at
         (steep_of w h at.theta (image (w * h) 0 part.old) (image (w * h) 1 part.old))
@@ -96,10 +89,10 @@ pub fn solve(
     let span = rows::pixels(rows, w);
     sums::steep(part, w, h, rows.first, rows.last, at.theta);
     let sums = sums::project(part, marks, n, span.from, span.to);
-    let Inverse::Exists(h_inv) = inverse::try_inverse(sums.h) else {
+    let Some(h_inv) = inverse::try_inverse(sums.h) else {
         return Step::Refuse(8);
     };
-    let Lambda::Is(lambda) = lambda_of(h_inv, sums.image_proj, sums.template_proj, s) else {
+    let Some(lambda) = lambda_of(h_inv, sums.image_proj, sums.template_proj, s) else {
         return Step::Refuse(9);
     };
     let error_proj = sums::errors(part, marks, n, span.from, span.to, lambda);

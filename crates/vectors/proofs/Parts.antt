@@ -1,4 +1,5 @@
 -- The parts of a pass: what the code compares is what the definitions give. Assumes nothing.
+use Rattle.std.specs.Prelude.{Option}
 use Prim.Native.Nat.{ℕ, ◌+◌, ◌*◌, ◌≤◌, ◌<◌}
 use mathlib.Core.Bool.{Bool, true, not, ◌&&◌}
 use mathlib.Core.Path.{◌≡◌, sym, ap, ap₂, ◌∙◌}
@@ -19,9 +20,7 @@ use Rattle.bits.specs.Equal.{BitIsMark, OnesAreCount, BytesBack}
 use Rattle.bits.proofs.Equal.{bit_is_mark, ones_are_count, bytes_back}
 use Rattle.inverse.specs.Inverse.{inverse_of}
 use Rattle.inverse.specs.declared.Matrix3.{Matrix3}
-use Rattle.inverse.specs.declared.Inverse.{Inverse}
 use Rattle.rows.specs.Rows.{marked_rows_of}
-use Rattle.rows.specs.declared.MarkedRows.{MarkedRows}
 use Rattle.rows.proofs.Turns.{rows_agree_lem}
 use Rattle.pose.specs.declared.Map.{Map}
 use Rattle.places.specs.Point.{marks_of}
@@ -113,7 +112,7 @@ module _ (words : List ℕ) (at n : ℕ) (few : n ≤ 1024) (ms os ws : List ℕ
 
 -- ---- w, h, marks: the rows that hold one follow
 pub rows_told_lem : (words : List ℕ) {s : Shape} (f : Fitting (stored_at words 1) (stored_at words 2) s) → s.ok ≡ true → (ms os ws : List ℕ) → ms ≡ bytes_at words 3 1024 → words_for s.n ≤ length os →
-    ws ≡ put os 0 (words_of ms s.n) → (q : MarkedRows) → q ≡ marked_rows_of (unpacked_of ws (s.w * s.h)) s.w s.h → rows_told words (3 + s.n) q ≡ rows_agree words
+    ws ≡ put os 0 (words_of ms s.n) → (q : Option Rows) → q ≡ marked_rows_of (unpacked_of ws (s.w * s.h)) s.w s.h → rows_told words (3 + s.n) q ≡ rows_agree words
 unfolding rows_agree
 rows_told_lem words {s} f ok ms os ws m held w q e =
     let p = f.pixels in

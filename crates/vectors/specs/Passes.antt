@@ -1,15 +1,11 @@
 -- When a vector of a part of a pass agrees with the definitions. Definitions only.
-use Rattle.std.specs.Prelude.{ℕ, ◌+◌, ◌*◌, Bool, true, ◌&&◌, List, [], ◌∷◌, ◌++◌, leb, eqb, length, get_or, Float}
+use Rattle.std.specs.Prelude.{ℕ, ◌+◌, ◌*◌, Bool, true, ◌&&◌, List, [], ◌∷◌, ◌++◌, leb, eqb, length, get_or, Float, None, Some, Option}
 use Rattle.std.specs.Float.{nan}
 use Rattle.lists.specs.Marked.{pick}
 use Rattle.marks.specs.Marks.{on, count_on}
 use Rattle.inverse.specs.Inverse.{inverse_of, entries_of}
 use Rattle.inverse.specs.declared.Matrix3.{Matrix3}
-use Rattle.inverse.specs.declared.Inverse.{Inverse}
-use Rattle.inverse.specs.declared.Inverse.TheVariants.{Exists, Missing}
 use Rattle.rows.specs.Rows.{marked_rows_of}
-use Rattle.rows.specs.declared.MarkedRows.{MarkedRows}
-use Rattle.rows.specs.declared.MarkedRows.TheVariants.{Bare, Span}
 use Rattle.pose.specs.declared.Map.{Map}
 use Rattle.places.specs.Point.{marks_of}
 use Rattle.warp.specs.Warp.{warp_of}
@@ -83,9 +79,9 @@ stats_agree words =
     && floats_agree words (2 + 5 * n) (norms_of (stats_of ms n (template_at words n) (image_at words n))))
 
 -- 1 and the first and the last row that hold a mark, or 0, from the word i on
-abbrev pub rows_told : List ℕ → ℕ → MarkedRows → Bool
-rows_told words i Bare = eqb (stored_at words i) 0
-rows_told words i (Span rows) = eqb (stored_at words i) 1 && (eqb (stored_at words (i + 1)) rows.first && eqb (stored_at words (i + 2)) rows.last)
+abbrev pub rows_told : List ℕ → ℕ → Option Rows → Bool
+rows_told words i None = eqb (stored_at words i) 0
+rows_told words i (Some rows) = eqb (stored_at words i) 1 && (eqb (stored_at words (i + 1)) rows.first && eqb (stored_at words (i + 2)) rows.last)
 
 -- w, h, marks; the rows that hold one
 unfoldable pub rows_agree : List ℕ → Bool
@@ -95,9 +91,9 @@ rows_agree words =
     is_shape w h && rows_told words (3 + w * h) (marked_rows_of (bytes_at words 3 (w * h)) w h)
 
 -- 1 and the inverse's entries, or 0, from the word 10 on
-abbrev pub inverse_told : List ℕ → Inverse → Bool
-inverse_told words Missing = eqb (stored_at words 10) 0
-inverse_told words (Exists m) = eqb (stored_at words 10) 1 && floats_agree words 11 (entries_of m)
+abbrev pub inverse_told : List ℕ → Option Matrix3 → Bool
+inverse_told words None = eqb (stored_at words 10) 0
+inverse_told words (Some m) = eqb (stored_at words 10) 1 && floats_agree words 11 (entries_of m)
 
 -- nine entries; the inverse
 unfoldable pub inverse_agrees : List ℕ → Bool

@@ -9,8 +9,8 @@ ghost use Rattle.words.specs.Words.{stored_at, floats_agree, bytes_agree};
 ghost use Rattle.vectors.specs.Passes.{map_at, matrix_at, warp_agrees, marked_agree, rows_told, rows_agree, norms_of, stats_agree, inverse_agrees, pass_agrees};
 
 use crate::shapes::sides_at;
-use inverse::{Inverse, Matrix3};
-use rows::MarkedRows;
+use inverse::Matrix3;
+use rows::Rows;
 use words::{bytes, float, floats, same, same_bytes, same_floats, word};
 
 // The first two rows of a matrix, from the word i on.
@@ -93,11 +93,11 @@ fn packed(marks: &[u8], n: usize, out: &mut [u64])
 }
 
 // Whether these rows are those of the words: 1 and the first and the last, or 0, from the word i on.
-fn rows_told(words: &[u64], i: usize, rows: MarkedRows) -> bool
+fn rows_told(words: &[u64], i: usize, rows: Option<Rows>) -> bool
     requires { i ≤ 8192 }
     ensures { result ≡ rows_told words.now i rows }
 {
-    let MarkedRows::Span(r) = rows else {
+    let Some(r) = rows else {
         return word(words, i) == 0;
     };
     if word(words, i) != 1 {
@@ -196,8 +196,8 @@ fn inverted(words: &[u64]) -> bool
     ensures { result ≡ inverse_agrees words.now }
 {
     match inverse::try_inverse(matrix_at(words, 1)) {
-        Inverse::Missing => word(words, 10) == 0,
-        Inverse::Exists(m) => {
+        None => word(words, 10) == 0,
+        Some(m) => {
             let e = [
                 m.m00, m.m01, m.m02, m.m10, m.m11, m.m12, m.m20, m.m21, m.m22,
             ];

@@ -20,7 +20,7 @@ ghost use Rattle.warp.specs.Rows.{read_of, Reach, Holding, WarpedThrough};
 #[derive(Clone, Copy)]
 pub struct Found {
     pub count: usize,
-    pub rows: rows::MarkedRows,
+    pub rows: Option<rows::Rows>,
 }
 
 // The pixels from `from` to `to` of the image, none of them marked, become +0 in the images 3 to 5. One loop for all three: mostly it is one pixel.

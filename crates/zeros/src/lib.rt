@@ -10,11 +10,7 @@ pub fn fill_floats(part: &mut [f32], dst: usize, len: usize)
     requires { dst + len ≤ length part.old }
     ensures { part.new ≡ put part.old dst (tab len (λ _. 0f)) }
 {
-    let mut i = 0;
-    while i < len {
-        part[dst + i] = 0.0;
-        i += 1;
-    }
+    part[dst..dst + len].fill(0.0);
 }
 
 // The first `len` words become 0.
@@ -22,9 +18,5 @@ pub fn fill_words(words: &mut [u64], len: usize)
     requires { len ≤ length words.old }
     ensures { words.new ≡ put words.old 0 (tab len (λ _. 0)) }
 {
-    let mut i = 0;
-    while i < len {
-        words[i] = 0;
-        i += 1;
-    }
+    words[..len].fill(0);
 }

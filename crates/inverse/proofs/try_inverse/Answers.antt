@@ -1,6 +1,6 @@
 -- `inverse::try_inverse` meets its contract. Assumes nothing.
+use Rattle.std.specs.Prelude.{Some}
 use mathlib.Core.Path.{sym, ap, ◌∙◌}
-use Rattle.inverse.specs.declared.Inverse.{Inverse}
 use Rattle.lists.proofs.Cases.{pick_true, pick_false}
 use Rattle.inverse.specs.Inverse.{inverse_of}
 use Rattle.inverse.proofs.try_inverse.Goals as goal
@@ -11,4 +11,4 @@ returns-then-d c = sym (pick_true _ _ _ c.if-d.true)
 
 pub returns : goal.returns
 unfolding inverse_of
-returns c = ap Inverse.Exists c.over.ensures ∙ sym (pick_false _ _ _ c.if-d.false)
+returns c = ap Some c.over.ensures ∙ sym (pick_false _ _ _ c.if-d.false)

@@ -38,7 +38,7 @@ weigh-requires c =
     let e = c.warp_work-found.ensures in (
       q.0,
       record { images = omega (arith, kept.size, q.1.images); places = omega (arith, stay.size, q.1.places) },
-      rows_front _ _ _ _ _ q.1.places e.marks_after _ _ e.count_value.1 c.in-Span.is,
+      rows_front _ _ _ _ _ q.1.places e.marks_after _ _ e.count_value.1 c.in-Some.is,
       count_front _ _ _ _ _ q.1.places e.marks_after _ e.count_value.0,
       q.2,
     )

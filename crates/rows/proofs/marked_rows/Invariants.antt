@@ -1,13 +1,10 @@
 -- `rows::marked_rows` meets its contract. The loop's invariant: no row above y holds a mark. Assumes nothing.
-use Prim.Native.Nat.{◌-◌, ◌*◌, ◌≤◌}
+use Rattle.std.specs.Prelude.{None}
+use Prim.Native.Nat.{◌*◌}
 use mathlib.Core.Path.{◌≡◌}
 use Rattle.bits.specs.Words.{unpacked_of}
 use Rattle.rows.specs.Rows.{marked_rows_of}
-use Rattle.rows.specs.declared.MarkedRows.TheVariants.{Bare}
 use Rattle.rows.proofs.marked_rows.Given as goal
 
 abbrev pub invariant-loop-y : goal.invariant-loop-y
-invariant-loop-y l = (l.y ≤ l.h) × (marked_rows_of (unpacked_of l.words (l.w * l.h)) l.w l.y ≡ Bare)
-
-abbrev pub decreases-loop-y : goal.decreases-loop-y
-decreases-loop-y l = l.h - l.y
+invariant-loop-y l = marked_rows_of (unpacked_of l.words (l.w * l.h)) l.w l.y ≡ None

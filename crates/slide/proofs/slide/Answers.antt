@@ -24,7 +24,7 @@ returns-in_default c = no_inverse _ _ _ _ _ _ _ _ _ c.project-sums.result.h c.pr
 
 pub returns-in_default-lambda_of : goal.returns-in_default-lambda_of
 returns-in_default-lambda_of c =
-    no_lambda _ _ _ _ _ _ _ _ _ c.project-sums.result.h c.project-sums.ensures.0 _ _ c.try_inverse2.ensures c.in-Exists.is _ _ c.project-sums.ensures.1 c.project-sums.ensures.2
+    no_lambda _ _ _ _ _ _ _ _ _ c.project-sums.result.h c.project-sums.ensures.0 _ _ c.try_inverse2.ensures c.in-Some.is _ _ c.project-sums.ensures.1 c.project-sums.ensures.2
     _ c.times2-iph.ensures _ _ c.dot2.ensures c.dot2-2.ensures _ c.lambda_of.ensures c.in_default-lambda_of.is
 
 pub errors-error_proj-requires : goal.errors-error_proj-requires
@@ -35,5 +35,5 @@ errors-error_proj-requires c =
 pub returns : goal.returns
 returns c =
     c.slid.ensures
-    ∙ one_lambda _ _ _ _ _ _ _ _ _ c.project-sums.result.h c.project-sums.ensures.0 _ _ c.try_inverse2.ensures c.in-Exists.is _ _ c.project-sums.ensures.1 c.project-sums.ensures.2
+    ∙ one_lambda _ _ _ _ _ _ _ _ _ c.project-sums.result.h c.project-sums.ensures.0 _ _ c.try_inverse2.ensures c.in-Some.is _ _ c.project-sums.ensures.1 c.project-sums.ensures.2
     _ c.times2-iph.ensures _ _ c.dot2.ensures c.dot2-2.ensures _ c.lambda_of.ensures _ c.in-Is.is _ _ c.errors-error_proj.ensures c.times2.ensures

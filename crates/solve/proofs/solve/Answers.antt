@@ -81,7 +81,7 @@ returns-in_default-lambda_of c =
     let a = c.args in
     let r = rows_told in
     solve_back a.w a.h a.rows.first a.rows.last r.0 r.1 a.at.theta _ _ a.part.now c.steep.new.part c.steep.ensures c.requires.1 _ between a.at a.s a.rho in
-    record { part_after = kept; value = no_lambda _ _ _ _ _ _ _ _ _ _ c.project-sums.result.h c.project-sums.ensures.0 _ _ c.try_inverse.ensures c.in-Exists.is _ _ c.project-sums.ensures.1 c.project-sums.ensures.2 _ c.lambda_of.ensures c.in_default-lambda_of.is ∙ back }
+    record { part_after = kept; value = no_lambda _ _ _ _ _ _ _ _ _ _ c.project-sums.result.h c.project-sums.ensures.0 _ _ c.try_inverse.ensures c.in-Some.is _ _ c.project-sums.ensures.1 c.project-sums.ensures.2 _ c.lambda_of.ensures c.in_default-lambda_of.is ∙ back }
 
 pub errors-error_proj-requires : goal.errors-error_proj-requires
 errors-error_proj-requires c =
@@ -116,4 +116,4 @@ returns c =
     let a = c.args in
     let r = rows_told in
     solve_back a.w a.h a.rows.first a.rows.last r.0 r.1 a.at.theta _ _ a.part.now c.steep.new.part c.steep.ensures c.requires.1 _ between a.at a.s a.rho in
-    record { part_after = kept; value = c.moved.ensures ∙ one_lambda _ _ _ _ _ _ _ _ _ _ c.project-sums.result.h c.project-sums.ensures.0 _ _ c.try_inverse.ensures c.in-Exists.is _ _ c.project-sums.ensures.1 c.project-sums.ensures.2 _ c.lambda_of.ensures _ c.in-Is.is _ _ c.errors-error_proj.ensures c.times.ensures ∙ back }
+    record { part_after = kept; value = c.moved.ensures ∙ one_lambda _ _ _ _ _ _ _ _ _ _ c.project-sums.result.h c.project-sums.ensures.0 _ _ c.try_inverse.ensures c.in-Some.is _ _ c.project-sums.ensures.1 c.project-sums.ensures.2 _ c.lambda_of.ensures _ c.in-Is.is _ _ c.errors-error_proj.ensures c.times.ensures ∙ back }

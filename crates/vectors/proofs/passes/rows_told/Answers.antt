@@ -19,7 +19,7 @@ returns-then-word-ne1 c =
     let r = v in
     let a = r.args in
     let words = a.words.now in
-    sym (first_failed _ (ap (λ (v : ℕ). eqb v 1) (sym v.word-2.ensures) ∙ ne_eqb v.word-2.result 1 c.if-word-ne1.true)) ∙ sym (ap (rows_told words a.i) r.in-Span.is)
+    sym (first_failed _ (ap (λ (v : ℕ). eqb v 1) (sym v.word-2.ensures) ∙ ne_eqb v.word-2.result 1 c.if-word-ne1.true)) ∙ sym (ap (rows_told words a.i) r.in-Some.is)
 
 pub returns-then-word-r : goal.returns-then-word-r
 returns-then-word-r c =
@@ -28,8 +28,8 @@ returns-then-word-r c =
     let a = r.args in
     let words = a.words.now in
     and_passed (eq-eqb (stored_at words a.i) 1 (sym v.word-2.ensures ∙ c.if-word-ne1.false))
-    (and_passed (eq-eqb (stored_at words (a.i + 1)) r.in-Span.r.first (sym c.word-3.ensures ∙ c.if-word-r.true)) (ap (λ (v : ℕ). eqb v r.in-Span.r.last) c.word-then-word-r.ensures))
-    ∙ sym (ap (rows_told words a.i) r.in-Span.is)
+    (and_passed (eq-eqb (stored_at words (a.i + 1)) r.in-Some.r.first (sym c.word-3.ensures ∙ c.if-word-r.true)) (ap (λ (v : ℕ). eqb v r.in-Some.r.last) c.word-then-word-r.ensures))
+    ∙ sym (ap (rows_told words a.i) r.in-Some.is)
 
 pub returns-else-word-r : goal.returns-else-word-r
 returns-else-word-r c =
@@ -37,8 +37,8 @@ returns-else-word-r c =
     let r = v in
     let a = r.args in
     let words = a.words.now in
-    let first = r.in-Span.r.first in
+    let first = r.in-Some.r.first in
     let fails = ne_eqb c.word-3.result first c.if-word-r.false in
     fails
     ∙ sym (second_failed (eqb (stored_at words a.i) 1) (first_failed _ (ap (λ (v : ℕ). eqb v first) (sym c.word-3.ensures) ∙ fails)))
-    ∙ sym (ap (rows_told words a.i) r.in-Span.is)
+    ∙ sym (ap (rows_told words a.i) r.in-Some.is)
