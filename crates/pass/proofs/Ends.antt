@@ -26,6 +26,7 @@ use Rattle.solve.specs.declared.Step.{Step}
 use Rattle.verdict.specs.Verdict.{verdict_of}
 use Rattle.verdict.specs.declared.Verdict.{Verdict}
 use Rattle.pass.specs.Pass.{onward, weighed_of, pass_of}
+use Rattle.rows.specs.declared.Rows.{Rows}
 
 -- ---- the verdict on the statistics
 module _ (ms : List ℕ) (template warped j1 j2 : List Float) (w h : ℕ) (eps : Float) (p : Pose) (last : Float) where

@@ -16,6 +16,7 @@ use Rattle.pose.specs.declared.Map.{Map}
 use Rattle.places.specs.Point.{marks_of}
 use Rattle.warp.proofs.Marks.{front}
 use Rattle.pass.specs.Kept.{KeptMarks}
+use Rattle.rows.specs.declared.Rows.{Rows}
 
 module _ (map : Map) (w h : ℕ) (ws ws' : List ℕ) (room : words_for (w * h) ≤ length ws) (is_ws' : ws' ≡ put ws 0 (words_of (marks_of map w h) (w * h))) where
   pub count_front : (found : ℕ) → found ≡ count_on (marks_of map w h) (w * h) → found ≡ count_on (unpacked_of ws' (w * h)) (w * h)

@@ -24,6 +24,7 @@ use Rattle.verdict.specs.Finite.{RhoFinite}
 use Rattle.verdict.specs.declared.Verdict.{Verdict}
 use Rattle.pass.specs.Pass.{onward, weighed_of, stats_at, pass_of}
 use Rattle.pass.specs.Kept.{Kept}
+use Rattle.inverse.specs.declared.Matrix3.{Matrix3}
 
 -- the refusal is one of the numbers N, a correlation is finite, and the next pose can be gone on with
 unfoldable pub Sound : (ℕ → Type 0) → Step → Type 0

@@ -12,6 +12,7 @@ use Rattle.sums.proofs.Agree.{product_agree, error_agree}
 use Rattle.inverse2.specs.Inverse.{inverse2_of}
 use Rattle.sums2.specs.Sums.{proj2_of, hessian2_of}
 use Rattle.slide.specs.Slide.{shift_of, slide_of}
+use Rattle.inverse2.specs.declared.Matrix2.{Matrix2}
 
 module _ (marks : List ℕ) (n : ℕ) (p : Pose) (gx gy tz tz' iz iz' : List Float) (s : Stats) (rho : Float) (same_tz : AgreeAt marks n tz tz') (same_iz : AgreeAt marks n iz iz') where
   proj_agree : (xs ys : List Float) → AgreeAt marks n xs ys → proj2_of marks n gx gy xs ≡ proj2_of marks n gx gy ys

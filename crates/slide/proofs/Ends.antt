@@ -7,13 +7,14 @@ use lib.Ieee.{Float}
 use Rattle.stats.specs.declared.Stats.{Stats}
 use Rattle.pose.specs.declared.Pose.{Pose}
 use Rattle.sums.specs.Sums.{error_of}
+use Rattle.solve.specs.Lambda.{lambda_of}
 use Rattle.solve.specs.declared.Step.{Step}
 use Rattle.inverse2.specs.Inverse.{inverse2_of, times2_of, dot2_of}
 use Rattle.inverse2.specs.declared.Vector2.{Vector2}
 use Rattle.inverse2.specs.declared.Matrix2.{Matrix2}
 use Rattle.sums2.specs.Sums.{proj2_of, hessian2_of}
-use Rattle.slide.specs.Slide.{lambda_of, on_lambda, slid_of, shift_of, slide_of}
-use Rattle.slide.proofs.Ratio.{on_none, on_some}
+use Rattle.slide.specs.Slide.{on_lambda, slid_of, shift_of, slide_of}
+use Rattle.slide.proofs.Follow.{on_none, on_some}
 
 module _ (ms : List ℕ) (n : ℕ) (p : Pose) (gx gy tz iz : List Float) (s : Stats) (rho : Float) (m : Matrix2) (is_m : m ≡ hessian2_of ms n gx gy) where
   abbrev answer : Step

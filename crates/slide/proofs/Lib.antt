@@ -1,3 +1,3 @@
-pub mod Ratio
+pub mod Follow
 pub mod Ends
 pub mod Agree

@@ -1,26 +1,18 @@
 -- The second half of a pass of the rail (document 02, request 4): document 000's with the entries of theta struck out, under its names. Definitions only.
 use Rattle.std.specs.Prelude.{ℕ, List, Float, None, Some, Option}
-use Rattle.std.specs.Float.Ieee.{le}
 use Rattle.std.specs.Float.Ieee.Scale.{finite}
 use Rattle.lists.specs.Marked.{pick}
-use Rattle.floats.specs.F32.{◌⊕◌, ◌⊖◌, ◌⊗◌, ◌⊘◌, 0f}
+use Rattle.floats.specs.F32.{◌⊕◌, 0f}
 use Rattle.stats.specs.declared.Stats.{Stats}
 use Rattle.pose.specs.declared.Pose.{Pose}
 use Rattle.sums.specs.Sums.{error_of}
+use Rattle.solve.specs.Lambda.{lambda_of}
 use Rattle.solve.specs.declared.Step.{Step}
 use Rattle.solve.specs.declared.Step.TheVariants.{Refuse, Move}
 use Rattle.inverse2.specs.Inverse.{inverse2_of, times2_of, dot2_of}
 use Rattle.inverse2.specs.declared.Vector2.{Vector2}
 use Rattle.sums2.specs.Sums.{proj2_of, hessian2_of}
-
--- lambda_n, lambda_d and lambda, by the products of image_proj and of template_proj with image_proj_hessian; none where lambda_d <= 0 or is not finite, or
--- lambda is not finite
-unfoldable pub lambda_of : Stats → Float → Float → Option Float
-lambda_of s image template =
-    let lambda_n = s.img_norm ⊗ s.img_norm ⊖ image in
-    let lambda_d = s.corr ⊖ template in
-    let lambda = lambda_n ⊘ lambda_d in
-    pick (le lambda_d 0f) None (pick (finite lambda_d) (pick (finite lambda) (Some lambda) None) None)
+use Rattle.inverse2.specs.declared.Matrix2.{Matrix2}
 
 -- what follows lambda; 9 where there is none
 unfoldable pub on_lambda : Option Float → (Float → Step) → Step

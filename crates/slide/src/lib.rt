@@ -10,31 +10,11 @@ ghost use Rattle.lists.specs.Marked.{words_for};
 ghost use Rattle.lists.specs.Premises.{InRange};
 ghost use Rattle.bits.specs.Words.{unpacked_of};
 ghost use Rattle.rows.specs.Rows.{marked_rows_of};
-ghost use Rattle.slide.specs.Slide.{lambda_of, slid_of, slide_of};
+ghost use Rattle.slide.specs.Slide.{slid_of, slide_of};
 
 use inverse2::Vector2;
 use rows::Rows;
 use solve::Step;
-
-// lambda, or none where lambda_d <= 0 or is not finite, or lambda is not finite. By the products of image_proj and of template_proj with
-// image_proj_hessian.
-fn lambda_of(s: stats::Stats, image: f32, template: f32) -> Option<f32>
-    ensures { result ≡ lambda_of s image template }
-{
-    let lambda_n = s.img_norm * s.img_norm - image;
-    let lambda_d = s.corr - template;
-    if lambda_d <= 0.0 {
-        return None;
-    }
-    if !numbers::is_finite(lambda_d) {
-        return None;
-    }
-    let lambda = lambda_n / lambda_d;
-    if !numbers::is_finite(lambda) {
-        return None;
-    }
-    Some(lambda)
-}
 
 // The shift with delta added; 10 where it is not finite.
 fn slid(at: pose::Pose, delta: Vector2, rho: f32) -> Step
@@ -76,7 +56,7 @@ pub fn slide(
     };
     let ip = sums.image_proj;
     let iph = inverse2::times2(h_inv, ip);
-    let Some(lambda) = lambda_of(
+    let Some(lambda) = solve::lambda_of(
         s,
         inverse2::dot2(ip, iph),
         inverse2::dot2(sums.template_proj, iph),

@@ -20,6 +20,7 @@ use Rattle.inverse.specs.declared.Matrix3.{Matrix3}
 use Rattle.pose.specs.declared.Pose.{Pose}
 use Rattle.sums.specs.Sums.{steep_of, proj_of, hessian_of, error_of}
 use Rattle.sums.proofs.Rows.{length_steep}
+use Rattle.solve.specs.Lambda.{lambda_of}
 use Rattle.solve.specs.Solve.{moved_of, update_of, solve_of}
 use Rattle.solve.specs.declared.Step.{Step}
 
@@ -40,7 +41,7 @@ by_tests false true true l f = refl
 by_tests false true false l f = refl
 by_tests false false c l f = refl
 
--- ---- lambda
+-- ---- lambda, by the products as they are worked out
 module _ (h : Matrix3) (ip tp : Vector3) (s : Stats) where
   abbrev divisor : Float
   divisor = s.corr ⊖ dot_of tp (times_of h ip)
@@ -48,31 +49,12 @@ module _ (h : Matrix3) (ip tp : Vector3) (s : Stats) where
   abbrev ratio : Float
   ratio = (s.img_norm ⊗ s.img_norm ⊖ dot_of ip (times_of h ip)) ⊘ divisor
 
-  abbrev lambda_of : Option Float
-  lambda_of = tested (le divisor 0f) (finite divisor) (finite ratio) ratio
+  abbrev lambda_by : Option Float
+  lambda_by = tested (le divisor 0f) (finite divisor) (finite ratio) ratio
 
-  -- by the products as they are worked out
-  module _ (iph : Vector3) (is_iph : iph ≡ times_of h ip) (a b : Float) (is_a : a ≡ dot_of ip iph) (is_b : b ≡ dot_of tp iph) where
-    abbrev d : Float
-    d = s.corr ⊖ b
-
-    abbrev l : Float
-    l = (s.img_norm ⊗ s.img_norm ⊖ a) ⊘ d
-
-    by_parts : tested (le d 0f) (finite d) (finite l) l ≡ lambda_of
-    by_parts = rw (is_a, is_b, is_iph)
-
-    pub not_above : le d 0f ≡ true → None ≡ lambda_of
-    not_above e = sym (pick_true _ _ _ e) ∙ by_parts
-
-    pub divisor_endless : le d 0f ≡ false → finite d ≡ false → None ≡ lambda_of
-    divisor_endless e f = sym (pick_false _ _ _ e ∙ pick_false _ _ _ f) ∙ by_parts
-
-    pub ratio_endless : le d 0f ≡ false → finite d ≡ true → finite l ≡ false → None ≡ lambda_of
-    ratio_endless e f g = sym (pick_false _ _ _ e ∙ pick_true _ _ _ f ∙ pick_false _ _ _ g) ∙ by_parts
-
-    pub ratio_stands : le d 0f ≡ false → finite d ≡ true → finite l ≡ true → Some l ≡ lambda_of
-    ratio_stands e f g = sym (pick_false _ _ _ e ∙ pick_true _ _ _ f ∙ pick_true _ _ _ g) ∙ by_parts
+  by_products : (iph : Vector3) → iph ≡ times_of h ip → (a b : Float) → a ≡ dot_of ip iph → b ≡ dot_of tp iph → lambda_of s a b ≡ lambda_by
+  unfolding lambda_of
+  by_products iph is_iph a b is_a is_b = rw (is_a, is_b, is_iph)
 
 -- ---- the three ends
 module _ (ms : List ℕ) (n : ℕ) (p : Pose) (j0 j1 j2 tz iz : List Float) (s : Stats) (rho : Float) (m : Matrix3) (is_m : m ≡ hessian_of ms n j0 j1 j2) where
@@ -91,11 +73,11 @@ module _ (ms : List ℕ) (n : ℕ) (p : Pose) (j0 j1 j2 tz iz : List Float) (s :
     abbrev to_move : Float → Step
     to_move l = moved_of p (times_of h (proj_of ms n j0 j1 j2 (error_of n l tz iz))) rho
 
-    module _ (q : Option Float) (is_q : q ≡ lambda_of h ip tp s) where
+    module _ (iph : Vector3) (is_iph : iph ≡ times_of h ip) (a b : Float) (is_a : a ≡ dot_of ip iph) (is_b : b ≡ dot_of tp iph) (q : Option Float) (is_q : q ≡ lambda_of s a b) where
       by_lambda : answer to_move q ≡ solve_of ms n p j0 j1 j2 tz iz s rho
       unfolding update_of
       by_lambda =
-          ap (answer to_move) (is_q ∙ ap₂ (λ (a b : Vector3). lambda_of h a b s) is_ip is_tp)
+          ap (answer to_move) (is_q ∙ by_products h ip tp s iph is_iph a b is_a is_b ∙ ap₂ (λ (a b : Vector3). lambda_by h a b s) is_ip is_tp)
           ∙ by_tests _ _ _ (ratio h (proj_of ms n j0 j1 j2 iz) (proj_of ms n j0 j1 j2 tz) s) to_move
           ∙ by_there
 

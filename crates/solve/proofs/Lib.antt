@@ -1,3 +1,4 @@
+pub mod Ratio
 pub mod Ends
 pub mod Agree
 pub mod Steep

@@ -12,6 +12,7 @@ use Rattle.pose.specs.declared.Pose.{Pose}
 use Rattle.sums.specs.Sums.{proj_of, hessian_of, error_of}
 use Rattle.solve.specs.declared.Step.{Step}
 use Rattle.solve.specs.declared.Step.TheVariants.{Refuse, Move}
+use Rattle.inverse.specs.declared.Matrix3.{Matrix3}
 
 -- theta += delta[0], tx += delta[1], ty += delta[2]; 10 where theta leaves -2..2, or tx or ty is not finite
 unfoldable pub moved_of : Pose → Vector3 → Float → Step

@@ -4,21 +4,18 @@
 // image 5, in the rows that hold a mark. Image 2 is not looked at.
 #![tactic(auto)]
 
-ghost use Rattle.std.specs.Prelude.{◌≡◌, ◌*◌, ◌≤◌, length, Some, None};
-ghost use Rattle.std.specs.Float.Ieee.{le};
-ghost use Rattle.std.specs.Float.Ieee.Scale.{finite};
+ghost use Rattle.std.specs.Prelude.{◌≡◌, ◌*◌, ◌≤◌, length, Some};
 ghost use Rattle.lists.specs.Lists.{image, set_image};
-ghost use Rattle.lists.specs.Marked.{pick, words_for};
+ghost use Rattle.lists.specs.Marked.{words_for};
 ghost use Rattle.lists.specs.Premises.{InRange};
 ghost use Rattle.floats.specs.Bound.{Within};
-ghost use Rattle.floats.specs.F32.{◌⊖◌, ◌⊗◌, ◌⊘◌, 0f};
-ghost use Rattle.inverse.specs.Inverse.{times_of, dot_of};
 ghost use Rattle.bits.specs.Words.{unpacked_of};
 ghost use Rattle.rows.specs.Rows.{marked_rows_of};
 ghost use Rattle.sums.specs.Sums.{steep_of};
+ghost use Rattle.solve.specs.Lambda.{lambda_of};
 ghost use Rattle.solve.specs.Solve.{moved_of, solve_of};
 
-use inverse::{Matrix3, Vector3};
+use inverse::Vector3;
 use rows::Rows;
 
 // How a pass ends: with a refusal, with the passes' stop at a correlation, or with the next pose and the correlation.
@@ -29,17 +26,13 @@ pub enum Step {
     Move(pose::Pose, f32),
 }
 
-// lambda, or none where lambda_d <= 0 or is not finite, or lambda is not finite.
-fn lambda_of(h_inv: Matrix3, ip: Vector3, tp: Vector3, s: stats::Stats) -> Option<f32>
-    ensures { result ≡ (
-        let iph = times_of h_inv ip in
-        let d = s.corr ⊖ dot_of tp iph in
-        let lambda = (s.img_norm ⊗ s.img_norm ⊖ dot_of ip iph) ⊘ d in
-        pick (le d 0f) None (pick (finite d) (pick (finite lambda) (Some lambda) None) None)) }
+// lambda, or none where lambda_d <= 0 or is not finite, or lambda is not finite. By the products of image_proj and of template_proj with
+// image_proj_hessian, so that it serves every model of the passes.
+pub fn lambda_of(s: stats::Stats, image: f32, template: f32) -> Option<f32>
+    ensures { result ≡ lambda_of s image template }
 {
-    let iph = inverse::times(h_inv, ip);
-    let lambda_n = s.img_norm * s.img_norm - inverse::dot(ip, iph);
-    let lambda_d = s.corr - inverse::dot(tp, iph);
+    let lambda_n = s.img_norm * s.img_norm - image;
+    let lambda_d = s.corr - template;
     if lambda_d <= 0.0 {
         return None;
     }
@@ -92,7 +85,13 @@ pub fn solve(
     let Some(h_inv) = inverse::try_inverse(sums.h) else {
         return Step::Refuse(8);
     };
-    let Some(lambda) = lambda_of(h_inv, sums.image_proj, sums.template_proj, s) else {
+    let ip = sums.image_proj;
+    let iph = inverse::times(h_inv, ip);
+    let Some(lambda) = lambda_of(
+        s,
+        inverse::dot(ip, iph),
+        inverse::dot(sums.template_proj, iph),
+    ) else {
         return Step::Refuse(9);
     };
     let error_proj = sums::errors(part, marks, n, span.from, span.to, lambda);

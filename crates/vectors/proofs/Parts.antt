@@ -39,6 +39,7 @@ use Rattle.vectors.proofs.Tests.{and_passed}
 use Rattle.vectors.proofs.Runs.{length_floats, image_floats, three_images}
 use Rattle.vectors.proofs.Stages.{shaped, pixels_are}
 use Rattle.vectors.proofs.Marked.{count_same, centred_same, stats_same, marked_same}
+use Rattle.rows.specs.declared.Rows.{Rows}
 
 -- ---- three images after three others, each with the length of an image
 module _ (n : ℕ) (ys a b c : List Float) (room : 6 * n ≤ length ys) (a_long : length a ≡ n) (b_long : length b ≡ n) (c_long : length c ≡ n) where

@@ -14,6 +14,7 @@ use Rattle.stats.specs.declared.Stats.{Stats}
 use Rattle.words.specs.Words.{stored_at, float_of, has_bits, bytes_at, floats_at, all_below, floats_agree, bytes_agree}
 use Rattle.vectors.specs.Shapes.{is_shape}
 use Rattle.vectors.specs.Kinds.{of_kind}
+use Rattle.rows.specs.declared.Rows.{Rows}
 
 -- the first two rows of a matrix, from the word i on
 unfoldable pub map_at : List ℕ → ℕ → Map

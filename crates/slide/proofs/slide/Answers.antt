@@ -36,4 +36,4 @@ pub returns : goal.returns
 returns c =
     c.slid.ensures
     ∙ one_lambda _ _ _ _ _ _ _ _ _ c.project-sums.result.h c.project-sums.ensures.0 _ _ c.try_inverse2.ensures c.in-Some.is _ _ c.project-sums.ensures.1 c.project-sums.ensures.2
-    _ c.times2-iph.ensures _ _ c.dot2.ensures c.dot2-2.ensures _ c.lambda_of.ensures _ c.in-Is.is _ _ c.errors-error_proj.ensures c.times2.ensures
+    _ c.times2-iph.ensures _ _ c.dot2.ensures c.dot2-2.ensures _ c.lambda_of.ensures _ c.in-Some-lambda_of.is _ _ c.errors-error_proj.ensures c.times2.ensures

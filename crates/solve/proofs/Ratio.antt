@@ -1,14 +1,13 @@
--- Lambda, test by test, and what follows it. Assumes nothing.
+-- Lambda, test by test. Assumes nothing.
 use Rattle.std.specs.Prelude.{Some, None, Option}
-use mathlib.Core.Path.{◌≡◌, sym, ap, ◌∙◌}
+use mathlib.Core.Path.{◌≡◌, sym, ◌∙◌}
 use mathlib.Core.Bool.{true, false}
 use lib.Ieee.{Float, le}
 use lib.Ieee.Scale.{finite}
 use Rattle.lists.proofs.Cases.{pick_true, pick_false}
 use Rattle.floats.specs.F32.{◌⊖◌, ◌⊗◌, ◌⊘◌, 0f}
 use Rattle.stats.specs.declared.Stats.{Stats}
-use Rattle.solve.specs.declared.Step.{Step}
-use Rattle.slide.specs.Slide.{lambda_of, on_lambda}
+use Rattle.solve.specs.Lambda.{lambda_of}
 
 -- ---- lambda: the first test must fail and the other two pass
 module _ (s : Stats) (image template : Float) where
@@ -33,13 +32,3 @@ module _ (s : Stats) (image template : Float) where
   pub ratio_stands : le d 0f ≡ false → finite d ≡ true → finite l ≡ true → Some l ≡ lambda_of s image template
   unfolding lambda_of
   ratio_stands e f g = sym (pick_false _ _ _ e ∙ pick_true _ _ _ f ∙ pick_true _ _ _ g)
-
--- what follows lambda
-module _ (update : Float → Step) (q : Option Float) where
-  pub on_none : q ≡ None → Step.Refuse 9 ≡ on_lambda q update
-  unfolding on_lambda
-  on_none e = sym (ap (λ (x : Option Float). on_lambda x update) e)
-
-  pub on_some : (l : Float) → q ≡ Some l → update l ≡ on_lambda q update
-  unfolding on_lambda
-  on_some l e = sym (ap (λ (x : Option Float). on_lambda x update) e)
