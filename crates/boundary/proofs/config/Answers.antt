@@ -1,5 +1,5 @@
 -- `boundary::config` meets its contract: edge 0 is none. Assumes nothing.
-use Rattle.std.specs.Prelude.{Option}
+use Rattle.std.specs.Prelude.{ℕ, Option}
 use mathlib.Core.Path.{sym, ap}
 use borrow.Author.Tests.{eq-eqb, ne_eqb}
 use Rattle.lists.proofs.Cases.{pick_true, pick_false}
