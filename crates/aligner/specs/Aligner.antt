@@ -1,10 +1,10 @@
 -- Document 000's EccAligner::estimate with document 01's numbers: the answer, and what is remembered. Definitions only.
-use Rattle.std.specs.Prelude.{ℕ, ◌*◌, true, false, List, ltb, eqb, length, take}
+use Rattle.std.specs.Prelude.{ℕ, ◌*◌, true, false, List, ltb, eqb, length, take, Err}
 use Rattle.lists.specs.Lists.{put}
 use Rattle.lists.specs.Marked.{pick}
 use Rattle.settings.specs.declared.EccConfig.{EccConfig}
 use Rattle.checks.specs.Checks.{check_of}
-use Rattle.pose.specs.declared.Answer.TheVariants.{Refused}
+use Rattle.refusals.specs.Refusals.{refusal_of}
 use Rattle.pose.specs.declared.Outcome.{Outcome}
 use Rattle.alignment.specs.Aligned.{aligned_of}
 use Rattle.aligner.specs.declared.EccAligner.{EccAligner}
@@ -25,7 +25,7 @@ known_of a w h = pick a.held (pick (eqb a.prev_w w) (pick (eqb a.prev_h h) 0 12)
 -- the answer to a frame that is taken: the previous frame is the template
 unfoldable pub answer_of : EccAligner → List ℕ → ℕ → ℕ → List ℕ → ℕ → ℕ → Outcome
 answer_of a frame w h store work marks =
-    pick (eqb (known_of a w h) 0) (aligned_of (take (w * h) store) frame w h a.cfg work marks) (record { passes = 0; answer = Refused (known_of a w h) })
+    pick (eqb (known_of a w h) 0) (aligned_of (take (w * h) store) frame w h a.cfg work marks) (record { passes = 0; answer = Err (refusal_of (known_of a w h)) })
 
 -- the aligner and the answer: where the first checks refuse, the aligner stays as it was; else the frame becomes the previous one
 unfoldable pub estimate_of : EccAligner → List ℕ → ℕ → ℕ → List ℕ → ℕ → ℕ → Reply
@@ -33,7 +33,7 @@ estimate_of a frame w h store work marks =
     let number = entry_of (length frame) w h (length store) in
     pick (eqb number 0)
     (record { aligner = record { cfg = a.cfg; held = true; prev_w = w; prev_h = h }; outcome = answer_of a frame w h store work marks })
-    (record { aligner = a; outcome = record { passes = 0; answer = Refused number } })
+    (record { aligner = a; outcome = record { passes = 0; answer = Err (refusal_of number) } })
 
 -- the store afterwards: its front holds the frame that was taken
 unfoldable pub store_after : List ℕ → ℕ → ℕ → List ℕ → List ℕ

@@ -5,14 +5,15 @@
 // were. After them the frame becomes the previous one, whatever the answer.
 #![tactic(auto)]
 
-ghost use Rattle.std.specs.Prelude.{◌≡◌, ◌*◌, ◌≤◌, length};
+ghost use Rattle.std.specs.Prelude.{◌≡◌, ◌*◌, ◌≤◌, length, Err};
 ghost use Rattle.lists.specs.Lists.{put};
 ghost use Rattle.checks.specs.Checks.{size_of};
-ghost use Rattle.pose.specs.declared.Answer.TheVariants.{Refused};
+ghost use Rattle.refusals.specs.Refusals.{checked};
 ghost use Rattle.alignment.specs.Aligned.{Leaves};
 ghost use Rattle.aligner.specs.Aligner.{fresh_of, entry_of, known_of, begun_of, answer_of, estimate_of, store_after, refused_of};
 
-use pose::{Answer, Outcome};
+use pose::Outcome;
+use refusals::Refusal;
 use settings::EccConfig;
 
 // The settings; whether a frame is remembered, and its sides.
@@ -46,48 +47,48 @@ impl EccAligner {
 }
 
 // A refusal before any pass.
-fn refused(number: u8) -> Outcome
-    ensures { result ≡ record { passes = 0; answer = Refused number } }
+fn refused(refusal: Refusal) -> Outcome
+    ensures { result ≡ record { passes = 0; answer = Err refusal } }
 {
     Outcome {
         passes: 0,
-        answer: Answer::Refused(number),
+        answer: Err(refusal),
     }
 }
 
 // The checks that come first, of a frame and a store by their lengths.
-pub fn entry(frame: usize, w: usize, h: usize, store: usize) -> u8
-    ensures { result ≡ entry_of frame w h store }
+pub fn entry(frame: usize, w: usize, h: usize, store: usize) -> Result<(), Refusal>
+    ensures { result ≡ checked (entry_of frame w h store) }
 {
     if w > EccConfig::MOST_SIDE {
-        return 2;
+        return Err(Refusal::SideTooLarge);
     }
     if h > EccConfig::MOST_SIDE {
-        return 2;
+        return Err(Refusal::SideTooLarge);
     }
     if frame != w * h {
-        return 1;
+        return Err(Refusal::InvalidInput);
     }
     if store < w * h {
-        return 13;
+        return Err(Refusal::StoreTooShort);
     }
-    0
+    Ok(())
 }
 
 // Whether there is a previous frame of the same sides.
-fn known(aligner: EccAligner, w: usize, h: usize) -> u8
-    ensures { result ≡ known_of aligner w h }
+fn known(aligner: EccAligner, w: usize, h: usize) -> Result<(), Refusal>
+    ensures { result ≡ checked (known_of aligner w h) }
 {
     if !aligner.held {
-        return 11;
+        return Err(Refusal::NoPrevious);
     }
     if aligner.prev_w != w {
-        return 12;
+        return Err(Refusal::OtherSides);
     }
     if aligner.prev_h != h {
-        return 12;
+        return Err(Refusal::OtherSides);
     }
-    0
+    Ok(())
 }
 
 // The answer to a frame that is taken.
@@ -105,9 +106,8 @@ fn answer(
     ensures leaves { let number = begun_of aligner (length frame.now) w h (length work.old) (length marks.old) in
         Leaves number (size_of aligner.cfg w h) work.old work.new marks.old marks.new }
 {
-    let number = known(aligner, w, h);
-    if number != 0 {
-        return refused(number);
+    if let Err(refusal) = known(aligner, w, h) {
+        return refused(refusal);
     }
     alignment::find_transform_ecc_euclidean(&store[..w * h], frame, w, h, aligner.cfg, work, marks)
 }
@@ -117,12 +117,7 @@ fn keep(store: &mut [u8], frame: &[u8])
     requires { length frame.now ≤ length store.old }
     ensures { store.new ≡ put store.old 0 frame.now }
 {
-    let n = frame.len();
-    let mut i = 0;
-    while i < n {
-        store[i] = frame[i];
-        i += 1;
-    }
+    store[..frame.len()].copy_from_slice(frame);
 }
 
 pub fn estimate(
@@ -139,11 +134,10 @@ pub fn estimate(
     ensures leaves { let number = refused_of aligner (length frame.now) w h (length store.old) (length work.old) (length marks.old) in
         Leaves number (size_of aligner.cfg w h) work.old work.new marks.old marks.new }
 {
-    let number = entry(frame.len(), w, h, store.len());
-    if number != 0 {
+    if let Err(refusal) = entry(frame.len(), w, h, store.len()) {
         return Reply {
             aligner,
-            outcome: refused(number),
+            outcome: refused(refusal),
         };
     }
     let outcome = answer(aligner, frame, w, h, store, work, marks);

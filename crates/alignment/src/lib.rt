@@ -13,7 +13,7 @@ ghost use Rattle.floats.specs.F32.{0f};
 ghost use Rattle.checks.specs.Checks.{size_of, check_of};
 ghost use Rattle.alignment.specs.Aligned.{run_of, aligned_of, Leaves};
 
-use pose::{Answer, Outcome};
+use pose::Outcome;
 use settings::EccConfig;
 
 // The call past its checks, the frames of w by h prepared at tw by th.
@@ -57,7 +57,7 @@ pub fn find_transform_ecc_euclidean(
     ensures leaves { let number = check_of (length template.now) (length input.now) w h cfg (length work.old) (length marks.old) in
         Leaves number (size_of cfg w h) work.old work.new marks.old marks.new }
 {
-    let number = checks::check(
+    let check = checks::check(
         template.len(),
         input.len(),
         w,
@@ -66,10 +66,10 @@ pub fn find_transform_ecc_euclidean(
         work.len(),
         marks.len(),
     );
-    if number != 0 {
+    if let Err(refusal) = check {
         return Outcome {
             passes: 0,
-            answer: Answer::Refused(number),
+            answer: Err(refusal),
         };
     }
     let s = settings::resized(cfg.edge(), w, h);

@@ -3,8 +3,10 @@
 
 ghost use Rattle.std.specs.Prelude.{◌≡◌, ◌≤◌};
 ghost use Rattle.lists.specs.Premises.{InRange};
+ghost use Rattle.refusals.specs.Refusals.{checked};
 ghost use Rattle.checks.specs.Checks.{size_of, room_of, limits_of, check_of};
 
+use refusals::Refusal;
 use settings::EccConfig;
 
 // How many pixels an image has after resizing.
@@ -17,21 +19,21 @@ fn size(cfg: EccConfig, w: usize, h: usize) -> usize
 }
 
 // The room that sides and settings in range need: 12n floats, and words for n marks, sixty-four to a word.
-fn room(cfg: EccConfig, w: usize, h: usize, work: usize, marks: usize) -> u8
+fn room(cfg: EccConfig, w: usize, h: usize, work: usize, marks: usize) -> Result<(), Refusal>
     requires { InRange w h }
-    ensures { result ≡ room_of cfg w h work marks }
+    ensures { result ≡ checked (room_of cfg w h work marks) }
 {
     let n = size(cfg, w, h);
     if work < 12 * n {
-        return 4;
+        return Err(Refusal::RoomTooShort);
     }
     if marks < (n + 63) / 64 {
-        return 4;
+        return Err(Refusal::RoomTooShort);
     }
-    0
+    Ok(())
 }
 
-// The number of the first check that fails, or 0. Template, input, work and marks are given by their lengths.
+// The refusal of the first check that fails. Template, input, work and marks are given by their lengths.
 pub fn check(
     template: usize,
     input: usize,
@@ -40,44 +42,44 @@ pub fn check(
     cfg: EccConfig,
     work: usize,
     marks: usize,
-) -> u8
-    ensures { result ≡ check_of template input w h cfg work marks }
+) -> Result<(), Refusal>
+    ensures { result ≡ checked (check_of template input w h cfg work marks) }
 {
     if w > EccConfig::MOST_SIDE {
-        return 2;
+        return Err(Refusal::SideTooLarge);
     }
     if h > EccConfig::MOST_SIDE {
-        return 2;
+        return Err(Refusal::SideTooLarge);
     }
     if w == 0 {
-        return 1;
+        return Err(Refusal::InvalidInput);
     }
     if h == 0 {
-        return 1;
+        return Err(Refusal::InvalidInput);
     }
     if template != w * h {
-        return 1;
+        return Err(Refusal::InvalidInput);
     }
     if input != w * h {
-        return 1;
+        return Err(Refusal::InvalidInput);
     }
     limits(cfg, w, h, work, marks)
 }
 
 // The settings' limits, then the room.
-fn limits(cfg: EccConfig, w: usize, h: usize, work: usize, marks: usize) -> u8
+fn limits(cfg: EccConfig, w: usize, h: usize, work: usize, marks: usize) -> Result<(), Refusal>
     requires { InRange w h }
-    ensures { result ≡ limits_of cfg w h work marks }
+    ensures { result ≡ checked (limits_of cfg w h work marks) }
 {
     let ksize = cfg.gauss_filt_size;
     if ksize % 2 == 0 {
-        return 1;
+        return Err(Refusal::InvalidInput);
     }
     if ksize > EccConfig::MOST_FILTER {
-        return 3;
+        return Err(Refusal::SettingTooLarge);
     }
     if cfg.max_iter > EccConfig::MOST_PASSES {
-        return 3;
+        return Err(Refusal::SettingTooLarge);
     }
     room(cfg, w, h, work, marks)
 }

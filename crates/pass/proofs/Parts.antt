@@ -15,9 +15,8 @@ use Rattle.warp.specs.Warp.{warp_of}
 use Rattle.stats.specs.Stats.{Centred}
 use Rattle.stats.specs.declared.Stats.{Stats}
 use Rattle.sums.specs.Sums.{steep_of}
-use Rattle.solve.specs.Solve.{solve_of}
+use Rattle.solve.specs.Solve.{Ended, solve_of}
 use Rattle.pass.specs.Kept.{CentredWork}
-use Rattle.solve.specs.declared.Step.{Step}
 use Rattle.warp.proofs.Sizes.{length_warp}
 
 -- an image that lies within the list
@@ -98,7 +97,7 @@ module _ (ms : List ℕ) (w h : ℕ) (p : Pose) (s : Stats) (rho : Float) (xs : 
       let there : image n 11 (whole n 6 xs ys) ≡ J = ap (image n 11) is ∙ image_later n xs [] (11, J) [] (fit, omega arith, tt) tt in
       rw there is
 
-  pub solve_back : (r : Step) → r ≡ solve_of ms (w * h) p (steep_of w h p.theta (image (w * h) 0 from_six) (image (w * h) 1 from_six)) (image (w * h) 0 from_six) (image (w * h) 1 from_six) (image (w * h) 3 from_six) (image (w * h) 4 from_six) s rho →
+  pub solve_back : (r : Ended) → r ≡ solve_of ms (w * h) p (steep_of w h p.theta (image (w * h) 0 from_six) (image (w * h) 1 from_six)) (image (w * h) 0 from_six) (image (w * h) 1 from_six) (image (w * h) 3 from_six) (image (w * h) 4 from_six) s rho →
       r ≡ solve_of ms (w * h) p j0 (image (w * h) 6 xs) (image (w * h) 7 xs) (image (w * h) 9 xs) (image (w * h) 10 xs) s rho
   solve_back r e =
       let f : 6 * (w * h) + 6 * (w * h) ≤ length xs = omega arith in

@@ -14,8 +14,7 @@ use Rattle.warp.specs.Warp.{warp_of}
 use Rattle.stats.specs.Stats.{centred_of}
 use Rattle.stats.specs.declared.Stats.{Stats}
 use Rattle.sums.specs.Sums.{steep_of}
-use Rattle.solve.specs.Solve.{solve_of}
-use Rattle.solve.specs.declared.Step.{Step}
+use Rattle.solve.specs.Solve.{Ended, solve_of}
 use Rattle.pass.specs.Pass.{weighed_of}
 use Rattle.pass.specs.Kept.{Kept, CentredWork}
 use Rattle.warp.proofs.Sizes.{length_warp}
@@ -48,7 +47,7 @@ module _ (map : Map) (w h : ℕ) (xs : List Float) (fits : 12 * (w * h) ≤ leng
     warped_input = ap (image (w * h) 5) is_ys ∙ image_later (w * h) xs ((7, warped 4) ∷ ((6, warped 3) ∷ [])) (5, warped 2) [] warps_fit (omega arith, (omega arith, tt))
 
     -- what follows the warp, on the work after it
-    pub weighed_there : (ms : List ℕ) → ms ≡ marks_of map w h → (eps : Float) (p : Pose) (last : Float) (r : Step) →
+    pub weighed_there : (ms : List ℕ) → ms ≡ marks_of map w h → (eps : Float) (p : Pose) (last : Float) (r : Ended) →
         r ≡ weighed_of ms (image (w * h) 8 ys) (image (w * h) 5 ys) (image (w * h) 6 ys) (image (w * h) 7 ys) w h eps p last →
         r ≡ weighed_of (marks_of map w h) (image (w * h) 8 xs) (warped 2) (warped 3) (warped 4) w h eps p last
     weighed_there ms e eps p last r q = rw (e, kept_warp.template, warped_input, warped_gx, warped_gy) at q
@@ -80,7 +79,7 @@ module _ (ms : List ℕ) (w h : ℕ) (xs : List Float) (fits : 12 * (w * h) ≤ 
   gy_there = ap (image (w * h) 7) is_ys ∙ image_spared (w * h) xs 7 centres centres_fit (omega arith, (omega arith, tt))
 
   -- the second half on the work after the centring: only marked pixels of the centred images count
-  pub solved_there : (p : Pose) (rho : Float) (r : Step) →
+  pub solved_there : (p : Pose) (rho : Float) (r : Ended) →
       r ≡ solve_of ms (w * h) p (steep_of w h p.theta (image (w * h) 6 ys) (image (w * h) 7 ys)) (image (w * h) 6 ys) (image (w * h) 7 ys) (image (w * h) 9 ys) (image (w * h) 10 ys) s rho →
       r ≡ solve_of ms (w * h) p (steep_of w h p.theta (image (w * h) 6 xs) (image (w * h) 7 xs)) (image (w * h) 6 xs) (image (w * h) 7 xs) tz iz s rho
   solved_there p rho r q = rw (gx_there, gy_there) at q ∙ solve_agree ms (w * h) p _ _ _ _ _ _ _ _ s rho (λ i l m. refl) o.template o.warped

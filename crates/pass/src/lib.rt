@@ -20,6 +20,7 @@ ghost use Rattle.solve.specs.Solve.{solve_of};
 ghost use Rattle.pass.specs.Pass.{pass_of, weighed_of};
 ghost use Rattle.pass.specs.Kept.{Kept, KeptMarks, CentredWork};
 
+use refusals::Refusal;
 use rows::Rows;
 use solve::Step;
 use verdict::Verdict;
@@ -63,7 +64,7 @@ fn solve_work(
     at: pose::Pose,
     s: stats::Stats,
     rho: f32,
-) -> Step
+) -> Result<Step, Refusal>
     requires { InRange w h × Lent (w * h) work.old marks.now × (marked_rows_of (unpacked_of marks.now (w * h)) w h ≡ Some rows)
         × Within at.theta 2 1 }
     ensures work_after { work.new ≡ set_image (w * h) 11 (image (w * h) 11 work.new) work.old }
@@ -86,7 +87,7 @@ fn weigh(
     last: f32,
     rows: Rows,
     found: usize,
-) -> Step
+) -> Result<Step, Refusal>
     requires { InRange w h × Lent (w * h) work.old marks.now × (marked_rows_of (unpacked_of marks.now (w * h)) w h ≡ Some rows)
         × (found ≡ count_on (unpacked_of marks.now (w * h)) (w * h)) × Within at.theta 2 1 }
     ensures result_value { let n = w * h in let xs = work.old in
@@ -96,9 +97,8 @@ fn weigh(
     let n = w * h;
     let span = rows::pixels(rows, w);
     let s = centre_work(work, marks, n, span.from, span.to, found);
-    match verdict::judge(s, last, eps) {
-        Verdict::Bad(number) => Step::Refuse(number),
-        Verdict::Settled(rho) => Step::Stop(rho),
+    match verdict::judge(s, last, eps)? {
+        Verdict::Settled(rho) => Ok(Step::Stop(rho)),
         Verdict::Unsettled(rho) => solve_work(work, marks, w, h, rows, at, s, rho),
     }
 }
@@ -111,7 +111,7 @@ pub fn pass(
     eps: f32,
     at: pose::Pose,
     last: f32,
-) -> Step
+) -> Result<Step, Refusal>
     requires { InRange w h × Lent (w * h) work.old marks.old × Within at.theta 2 1 }
     ensures value { result ≡ pass_of (image (w * h) 8 work.old) (image (w * h) 2 work.old) (image (w * h) 3 work.old)
         (image (w * h) 4 work.old) w h eps at last }
@@ -121,10 +121,10 @@ pub fn pass(
     let found = warp_work(work, marks, map, w, h);
     let marked = found.rows;
     let Some(rows) = marked else {
-        return Step::Refuse(5);
+        return Err(Refusal::FewPixels);
     };
     if found.count < 16 {
-        return Step::Refuse(5);
+        return Err(Refusal::FewPixels);
     }
     weigh(work, marks, w, h, eps, at, last, rows, found.count)
 }

@@ -1,5 +1,5 @@
 -- The matrix of a pose and of an answer: document 000's affine_from_theta_tx_ty and identity3; the pose in original pixels. Definitions only.
-use Rattle.std.specs.Prelude.{ℕ, Bool, ◌&&◌, Float}
+use Rattle.std.specs.Prelude.{ℕ, Bool, ◌&&◌, Float, Option, Some, None, Result, Ok, Err}
 use Rattle.std.specs.Float.Ieee.{neg, le}
 use Rattle.std.specs.Float.Ieee.Scale.{finite}
 use Rattle.lists.specs.Marked.{pick}
@@ -7,20 +7,26 @@ use Rattle.floats.specs.F32.{◌⊘◌, 0f, 1f, 2f}
 use Rattle.series.specs.Series.{cos_of, sin_of}
 use Rattle.pose.specs.declared.Map.{Map}
 use Rattle.pose.specs.declared.Pose.{Pose}
-use Rattle.pose.specs.declared.Answer.{Answer}
-use Rattle.pose.specs.declared.Answer.TheVariants.{Posed, Refused}
+use Rattle.pose.specs.declared.Posed.{Posed}
+use Rattle.refusals.specs.Refusals.{number}
+use Rattle.refusals.specs.declared.Refusal.{Refusal}
+use Rattle.refusals.specs.declared.Refusal.TheVariants.{PoseLost}
 use Rattle.inverse.specs.declared.Matrix3.{Matrix3}
 
 -- affine_from_theta_tx_ty(theta, tx, ty) without its third row, by which the warp goes: [ct, -st, tx], [st, ct, ty]
 unfoldable pub affine_from_theta_tx_ty : Pose → Map
 affine_from_theta_tx_ty p = let ct = cos_of p.theta in let st = sin_of p.theta in record { m00 = ct; m01 = neg st; m02 = p.tx; m10 = st; m11 = ct; m12 = p.ty }
 
+-- how a call ends: a pose, or a refusal
+abbrev pub Answer : Type 0
+Answer = Result Posed Refusal
+
 -- the pose in original pixels: tx over tw / w, ty over th / h; 10 where one of them is not finite then
 unfoldable pub unscaled_of : Float → Float → Pose → Float → Answer
 unscaled_of sx sy p rho =
     let tx = p.tx ⊘ sx in
     let ty = p.ty ⊘ sy in
-    pick (finite tx) (pick (finite ty) (Posed p.theta tx ty rho) (Refused 10)) (Refused 10)
+    pick (finite tx) (pick (finite ty) (Ok (record { theta = p.theta; tx = tx; ty = ty; rho = rho })) (Err PoseLost)) (Err PoseLost)
 
 -- numbers of a pose: theta in -2..2, tx and ty finite
 unfoldable pub is_pose : Float → Float → Float → Bool
@@ -40,11 +46,11 @@ affine_matrix theta tx ty =
 unfoldable pub posed_matrix : Float → Float → Float → Matrix3
 posed_matrix theta tx ty = pick (is_pose theta tx ty) (affine_matrix theta tx ty) identity3
 
--- the matrix of an answer: identity3 for a refusal
-unfoldable pub matrix_of : Answer → Matrix3
+-- the matrix of an answer's pose: identity3 where there is none
+unfoldable pub matrix_of : Option Posed → Matrix3
 unfolding identity3 posed_matrix
-matrix_of (Refused k) = identity3
-matrix_of (Posed theta tx ty rho) = posed_matrix theta tx ty
+matrix_of None = identity3
+matrix_of (Some p) = posed_matrix p.theta p.tx p.ty
 
 -- document 01's number and values of an answer
 pub record Told : Type 0 where
@@ -56,8 +62,8 @@ pub record Told : Type 0 where
 
 -- by its cases: a pose has number 0 and its four values; a refusal has its number, and no values: zeros stand for them
 unfoldable pub told_of : Answer → Told
-told_of (Refused k) = record { number = k; theta = 0f; tx = 0f; ty = 0f; rho = 0f }
-told_of (Posed theta tx ty rho) = record { number = 0; theta = theta; tx = tx; ty = ty; rho = rho }
+told_of (Err r) = record { number = number r; theta = 0f; tx = 0f; ty = 0f; rho = 0f }
+told_of (Ok p) = record { number = 0; theta = p.theta; tx = p.tx; ty = p.ty; rho = p.rho }
 
 -- its number
 abbrev pub number_of : Answer → ℕ

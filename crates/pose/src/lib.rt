@@ -6,6 +6,7 @@ ghost use Rattle.floats.specs.Bound.{Within};
 ghost use Rattle.pose.specs.Pose.{affine_from_theta_tx_ty, unscaled_of, identity3, is_pose, affine_matrix, posed_matrix, matrix_of, number_of};
 
 use inverse::Matrix3;
+use refusals::Refusal;
 
 // The running pose.
 #[derive(Clone, Copy)]
@@ -26,17 +27,17 @@ pub struct Map {
     pub m12: f32,
 }
 
-// How a call ends: a pose with its correlation, or a refusal number of document 01's table.
+// A pose in original pixels, with its correlation.
 #[derive(Clone, Copy)]
-pub enum Answer {
-    Posed {
-        theta: f32,
-        tx: f32,
-        ty: f32,
-        rho: f32,
-    },
-    Refused(u8),
+pub struct Posed {
+    pub theta: f32,
+    pub tx: f32,
+    pub ty: f32,
+    pub rho: f32,
 }
+
+// How a call ends: a pose, or a refusal of document 01's table.
+pub type Answer = Result<Posed, Refusal>;
 
 // An answer with the number of warps done.
 #[derive(Clone, Copy)]
@@ -69,17 +70,17 @@ pub fn unscaled(sx: f32, sy: f32, at: Pose, rho: f32) -> Answer
     let tx = at.tx / sx;
     let ty = at.ty / sy;
     if !numbers::is_finite(tx) {
-        return Answer::Refused(10);
+        return Err(Refusal::PoseLost);
     }
     if !numbers::is_finite(ty) {
-        return Answer::Refused(10);
+        return Err(Refusal::PoseLost);
     }
-    Answer::Posed {
+    Ok(Posed {
         theta: at.theta,
         tx,
         ty,
         rho,
-    }
+    })
 }
 
 fn identity3() -> Matrix3
@@ -144,18 +145,13 @@ pub fn posed_matrix(theta: f32, tx: f32, ty: f32) -> Matrix3
     }
 }
 
-// The matrix of any answer: the identity for a refusal, for a number that is not finite and for a theta outside -2..2.
-pub fn matrix_of(a: Answer) -> Matrix3
-    ensures { result ≡ matrix_of a }
+// The matrix of any answer's pose: the identity where there is none, for a number that is not finite and for a theta outside -2..2.
+pub fn matrix_of(pose: Option<Posed>) -> Matrix3
+    ensures { result ≡ matrix_of pose }
 {
-    match a {
-        Answer::Refused(_) => identity3(),
-        Answer::Posed {
-            theta,
-            tx,
-            ty,
-            rho: _,
-        } => posed_matrix(theta, tx, ty),
+    match pose {
+        None => identity3(),
+        Some(p) => posed_matrix(p.theta, p.tx, p.ty),
     }
 }
 
@@ -164,12 +160,7 @@ pub fn number_of(answer: Answer) -> u8
     ensures { result ≡ number_of answer }
 {
     match answer {
-        Answer::Refused(k) => k,
-        Answer::Posed {
-            theta: _,
-            tx: _,
-            ty: _,
-            rho: _,
-        } => 0,
+        Err(refusal) => refusal.number(),
+        Ok(_) => 0,
     }
 }

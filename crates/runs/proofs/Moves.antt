@@ -1,6 +1,6 @@
 -- How a pass ends: with a refusal from 5 to 10, a finite correlation, or a pose to go on with, whose theta is from -2 to 2. Said of any set of numbers that has 5, 6 and 8 to 10,
 -- and 7 or a finite correlation. Assumes nothing.
-use Rattle.std.specs.Prelude.{None, Some, Option}
+use Rattle.std.specs.Prelude.{None, Some, Option, Ok, Err, Result}
 use Prim.Native.Nat.{ℕ}
 use mathlib.Core.Path.{◌≡◌, sym, ◌∙◌, subst}
 use mathlib.Core.Bool.{true, true≢false}
@@ -15,9 +15,8 @@ use Rattle.floats.specs.Bound.{Within}
 use Rattle.pose.specs.declared.Pose.{Pose}
 use Rattle.pose.proofs.Tests.{pose_theta}
 use Rattle.inverse.specs.declared.Vector3.{Vector3}
-use Rattle.solve.specs.Solve.{moved_of, update_of, solve_of}
-use Rattle.solve.specs.declared.Step.{Step}
-use Rattle.solve.specs.declared.Step.TheVariants.{Refuse, Stop, Move}
+use Rattle.solve.specs.Solve.{Ended, moved_of, update_of, solve_of}
+use Rattle.solve.specs.declared.Step.TheVariants.{Stop, Move}
 use Rattle.stats.specs.declared.Stats.{Stats}
 use Rattle.verdict.specs.Verdict.{verdict_of}
 use Rattle.verdict.specs.Finite.{RhoFinite}
@@ -25,12 +24,14 @@ use Rattle.verdict.specs.declared.Verdict.{Verdict}
 use Rattle.pass.specs.Pass.{onward, weighed_of, stats_at, pass_of}
 use Rattle.pass.specs.Kept.{Kept}
 use Rattle.inverse.specs.declared.Matrix3.{Matrix3}
+use Rattle.refusals.specs.Refusals.{number}
+use Rattle.refusals.specs.declared.Refusal.{Refusal}
 
 -- the refusal is one of the numbers N, a correlation is finite, and the next pose can be gone on with
-unfoldable pub Sound : (ℕ → Type 0) → Step → Type 0
-Sound N (Refuse n) = N n
-Sound N (Stop rho) = finite rho ≡ true
-Sound N (Move p rho) = Within p.theta 2 1 × (finite rho ≡ true)
+unfoldable pub Sound : (ℕ → Type 0) → Ended → Type 0
+Sound N (Err r) = N (number r)
+Sound N (Ok (Stop rho)) = finite rho ≡ true
+Sound N (Ok (Move p rho)) = Within p.theta 2 1 × (finite rho ≡ true)
 
 -- the numbers that a pass refuses with are among N. 7 stands apart: where it is not, rho must be finite (`SevenOrFinite`)
 pub record Refusals (N : ℕ → Type 0) : Type 0 where
@@ -62,10 +63,10 @@ module _ (N : ℕ → Type 0) (among : Refusals N) where
       solve_sound = update_sound _
 
   module _ (w h : ℕ) (eps : Float) (p : Pose) (last : Float) where
-    onward_sound : (s : Stats) (update : Float → Step) → SevenOrFinite N s → ((rho : Float) → finite rho ≡ true → Sound N (update rho)) → Sound N (onward (verdict_of s last eps) update)
+    onward_sound : (s : Stats) (update : Float → Ended) → SevenOrFinite N s → ((rho : Float) → finite rho ≡ true → Sound N (update rho)) → Sound N (onward (verdict_of s last eps) update)
     unfolding onward verdict_of Sound
     onward_sound s update seven u =
-        let P : Verdict → Type 0 = λ v. Sound N (onward v update) in
+        let P : Result Verdict Refusal → Type 0 = λ v. Sound N (onward v update) in
         either P _ _ _ (λ e. among.six)
         (λ t. either P _ _ _ (λ e. among.six) (λ i. either P _ _ _ (λ f. pick_both P _ _ _ f (u _ f)) (λ e. ⊎_elim (λ n. n) (λ r. absurd (true≢false (sym (r.rho t i) ∙ e))) seven)))
 
@@ -75,7 +76,7 @@ module _ (N : ℕ → Type 0) (among : Refusals N) where
 
 module _ (w h : ℕ) (eps : Float) (p : Pose) (last : Float) where
   -- where it moves on theta is from -2 to 2: number 10 is tested before
-  pub move_within : (template input gx gy : List Float) (x : Step) → x ≡ pass_of template input gx gy w h eps p last → (q : Pose) (r : Float) → x ≡ Move q r → Within q.theta 2 1
+  pub move_within : (template input gx gy : List Float) (x : Ended) → x ≡ pass_of template input gx gy w h eps p last → (q : Pose) (r : Float) → x ≡ Ok (Move q r) → Within q.theta 2 1
   unfolding Sound
   move_within template input gx gy x e q r g =
       let any : ℕ → Type 0 = λ n. Unit {0} in

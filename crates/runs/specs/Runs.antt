@@ -1,37 +1,37 @@
 -- The passes of a call: the state after k of them, and what they come to. Definitions only.
-use Rattle.std.specs.Prelude.{ℕ, zero, suc, Float}
+use Rattle.std.specs.Prelude.{ℕ, zero, suc, Float, Ok, Err}
 use Rattle.std.specs.Float.Ieee.{neg}
 use Rattle.floats.specs.F32.{◌⊘◌, 0f, 1f}
 use Rattle.pose.specs.declared.Pose.{Pose}
 use Rattle.pose.specs.Pose.{unscaled_of}
-use Rattle.pose.specs.declared.Answer.TheVariants.{Refused}
+use Rattle.refusals.specs.declared.Refusal.{Refusal}
 use Rattle.pose.specs.declared.Outcome.{Outcome}
-use Rattle.solve.specs.declared.Step.{Step}
-use Rattle.solve.specs.declared.Step.TheVariants.{Refuse, Stop, Move}
+use Rattle.solve.specs.declared.Step.TheVariants.{Stop, Move}
+use Rattle.solve.specs.Solve.{Ended}
 
 -- after some passes: still going, with the pose, rho and last rho; or stopped with a pose; or refused. Each with the warps done
 pub data Run : Type 0 where
   going : ℕ → Pose → Float → Float → Run
   stopped : ℕ → Pose → Float → Run
-  refused : ℕ → ℕ → Run
+  refused : ℕ → Refusal → Run
 
 -- theta = tx = ty = 0, rho = -1, last rho minus infinity
 unfoldable pub start : Run
 start = going 0 (record { theta = 0f; tx = 0f; ty = 0f }) (neg 1f) (neg 1f ⊘ 0f)
 
-unfoldable pub landed : ℕ → Pose → Step → Run
-landed k p (Refuse n) = refused (suc k) n
-landed k p (Stop rho) = stopped (suc k) p rho
-landed k p (Move q rho) = going (suc k) q rho rho
+unfoldable pub landed : ℕ → Pose → Ended → Run
+landed k p (Err r) = refused (suc k) r
+landed k p (Ok (Stop rho)) = stopped (suc k) p rho
+landed k p (Ok (Move q rho)) = going (suc k) q rho rho
 
 -- one more pass; the passes end at the first ending
-unfoldable pub next : (Pose → Float → Step) → Run → Run
+unfoldable pub next : (Pose → Float → Ended) → Run → Run
 unfolding landed
 next pass (going k p rho last) = landed k p (pass p last)
 next pass (stopped k p rho) = stopped k p rho
-next pass (refused k n) = refused k n
+next pass (refused k r) = refused k r
 
-unfoldable pub after : (Pose → Float → Step) → ℕ → Run
+unfoldable pub after : (Pose → Float → Ended) → ℕ → Run
 unfolding start next
 after pass zero = start
 after pass (suc k) = next pass (after pass k)
@@ -41,4 +41,4 @@ unfoldable pub outcome_of : Float → Float → Run → Outcome
 unfolding unscaled_of
 outcome_of sx sy (going k p rho last) = record { passes = k; answer = unscaled_of sx sy p rho }
 outcome_of sx sy (stopped k p rho) = record { passes = k; answer = unscaled_of sx sy p rho }
-outcome_of sx sy (refused k n) = record { passes = k; answer = Refused n }
+outcome_of sx sy (refused k r) = record { passes = k; answer = Err r }

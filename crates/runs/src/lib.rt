@@ -11,7 +11,7 @@ ghost use Rattle.pass.specs.Pass.{pass_of};
 ghost use Rattle.pass.specs.Kept.{Kept, KeptMarks};
 ghost use Rattle.runs.specs.Runs.{after, outcome_of};
 
-use pose::{Answer, Outcome, Pose};
+use pose::{Outcome, Pose};
 use solve::Step;
 
 pub fn run(
@@ -36,26 +36,29 @@ pub fn run(
     };
     let mut rho = -1.0f32;
     let mut last = -1.0f32 / 0.0;
-    let mut k = 0usize;
-    let answer = loop {
-        if k == max_iter {
-            break pose::unscaled(sx, sy, at, rho);
-        }
-        let step = pass::pass(work, marks, w, h, eps, at, last);
-        k += 1;
-        match step {
-            Step::Refuse(n) => {
-                break Answer::Refused(n);
+    for k in 0..max_iter {
+        match pass::pass(work, marks, w, h, eps, at, last) {
+            Err(refusal) => {
+                return Outcome {
+                    passes: k + 1,
+                    answer: Err(refusal),
+                };
             }
-            Step::Stop(r) => {
-                break pose::unscaled(sx, sy, at, r);
+            Ok(Step::Stop(r)) => {
+                return Outcome {
+                    passes: k + 1,
+                    answer: pose::unscaled(sx, sy, at, r),
+                };
             }
-            Step::Move(p, r) => {
+            Ok(Step::Move(p, r)) => {
                 at = p;
                 rho = r;
                 last = r;
             }
         }
-    };
-    Outcome { passes: k, answer }
+    }
+    Outcome {
+        passes: max_iter,
+        answer: pose::unscaled(sx, sy, at, rho),
+    }
 }

@@ -13,22 +13,23 @@ ghost use Rattle.rows.specs.Rows.{marked_rows_of};
 ghost use Rattle.slide.specs.Slide.{slid_of, slide_of};
 
 use inverse2::Vector2;
+use refusals::Refusal;
 use rows::Rows;
 use solve::Step;
 
 // The shift with delta added; 10 where it is not finite.
-fn slid(at: pose::Pose, delta: Vector2, rho: f32) -> Step
+fn slid(at: pose::Pose, delta: Vector2, rho: f32) -> Result<Step, Refusal>
     ensures { result ≡ slid_of at delta rho }
 {
     let tx = at.tx + delta.0;
     let ty = at.ty + delta.1;
     if !numbers::is_finite(tx) {
-        return Step::Refuse(10);
+        return Err(Refusal::PoseLost);
     }
     if !numbers::is_finite(ty) {
-        return Step::Refuse(10);
+        return Err(Refusal::PoseLost);
     }
-    Step::Move(pose::Pose { theta: 0.0, tx, ty }, rho)
+    Ok(Step::Move(pose::Pose { theta: 0.0, tx, ty }, rho))
 }
 
 // The sums, the inverse, lambda and the update, with the refusals 8, 9 and 10. `rows` are the first and the last that hold a mark: no others are
@@ -42,7 +43,7 @@ pub fn slide(
     at: pose::Pose,
     s: stats::Stats,
     rho: f32,
-) -> Step
+) -> Result<Step, Refusal>
     requires { InRange w h × (5 * (w * h) ≤ length part.now) × (words_for (w * h) ≤ length marks.now)
         × (marked_rows_of (unpacked_of marks.now (w * h)) w h ≡ Some rows) }
     ensures { let n = w * h in let xs = part.now in
@@ -52,7 +53,7 @@ pub fn slide(
     let span = rows::pixels(rows, w);
     let sums = sums2::project(part, marks, n, span.from, span.to);
     let Some(h_inv) = inverse2::try_inverse2(sums.h) else {
-        return Step::Refuse(8);
+        return Err(Refusal::NoInverse);
     };
     let ip = sums.image_proj;
     let iph = inverse2::times2(h_inv, ip);
@@ -61,7 +62,7 @@ pub fn slide(
         inverse2::dot2(ip, iph),
         inverse2::dot2(sums.template_proj, iph),
     ) else {
-        return Step::Refuse(9);
+        return Err(Refusal::NoStep);
     };
     let error_proj = sums2::errors(part, marks, n, span.from, span.to, lambda);
     slid(at, inverse2::times2(h_inv, error_proj), rho)

@@ -1,5 +1,5 @@
 -- How a pass ends, by what the inverse and lambda come to. Assumes nothing.
-use Rattle.std.specs.Prelude.{None, Some, Option}
+use Rattle.std.specs.Prelude.{None, Some, Option, Err}
 use Prim.Native.Nat.{ℕ, ◌*◌, ◌≤◌}
 use mathlib.Core.Path.{◌≡◌, refl, sym, ap, ap₂, ◌∙◌}
 use mathlib.Core.Bool.{Bool, true, false}
@@ -21,20 +21,20 @@ use Rattle.pose.specs.declared.Pose.{Pose}
 use Rattle.sums.specs.Sums.{steep_of, proj_of, hessian_of, error_of}
 use Rattle.sums.proofs.Rows.{length_steep}
 use Rattle.solve.specs.Lambda.{lambda_of}
-use Rattle.solve.specs.Solve.{moved_of, update_of, solve_of}
-use Rattle.solve.specs.declared.Step.{Step}
+use Rattle.solve.specs.Solve.{Ended, moved_of, update_of, solve_of}
+use Rattle.refusals.specs.declared.Refusal.TheVariants.{NoStep, NoInverse}
 
 -- ---- three tests in a row: the first must fail and the other two pass
 abbrev tested : Bool → Bool → Bool → Float → Option Float
 tested a b c l = pick a None (pick b (pick c (Some l) None) None)
 
 -- the step that comes of lambda, f where there is one
-abbrev answer : (Float → Step) → Option Float → Step
+abbrev answer : (Float → Ended) → Option Float → Ended
 answer f (Some l) = f l
-answer f None = Step.Refuse 9
+answer f None = Err NoStep
 
-by_tests : (a b c : Bool) (l : Float) (f : Float → Step) →
-    answer f (tested a b c l) ≡ pick a (Step.Refuse 9) (pick b (pick c (f l) (Step.Refuse 9)) (Step.Refuse 9))
+by_tests : (a b c : Bool) (l : Float) (f : Float → Ended) →
+    answer f (tested a b c l) ≡ pick a (Err NoStep) (pick b (pick c (f l) (Err NoStep)) (Err NoStep))
 unfolding pick
 by_tests true b c l f = refl
 by_tests false true true l f = refl
@@ -62,7 +62,7 @@ module _ (ms : List ℕ) (n : ℕ) (p : Pose) (j0 j1 j2 tz iz : List Float) (s :
   unfolding solve_of
   by_inverse r e = ap (update_of ms n p j0 j1 j2 tz iz s rho) (e ∙ ap inverse_of is_m)
 
-  pub no_inverse : (r : Option Matrix3) → r ≡ inverse_of m → r ≡ None → Step.Refuse 8 ≡ solve_of ms n p j0 j1 j2 tz iz s rho
+  pub no_inverse : (r : Option Matrix3) → r ≡ inverse_of m → r ≡ None → Err NoInverse ≡ solve_of ms n p j0 j1 j2 tz iz s rho
   unfolding update_of
   no_inverse r e k = sym (ap (update_of ms n p j0 j1 j2 tz iz s rho) k) ∙ by_inverse r e
 
@@ -70,7 +70,7 @@ module _ (ms : List ℕ) (n : ℕ) (p : Pose) (j0 j1 j2 tz iz : List Float) (s :
     by_there : update_of ms n p j0 j1 j2 tz iz s rho (Some h) ≡ solve_of ms n p j0 j1 j2 tz iz s rho
     by_there = sym (ap (update_of ms n p j0 j1 j2 tz iz s rho) there) ∙ by_inverse r is_r
 
-    abbrev to_move : Float → Step
+    abbrev to_move : Float → Ended
     to_move l = moved_of p (times_of h (proj_of ms n j0 j1 j2 (error_of n l tz iz))) rho
 
     module _ (iph : Vector3) (is_iph : iph ≡ times_of h ip) (a b : Float) (is_a : a ≡ dot_of ip iph) (is_b : b ≡ dot_of tp iph) (q : Option Float) (is_q : q ≡ lambda_of s a b) where
@@ -81,7 +81,7 @@ module _ (ms : List ℕ) (n : ℕ) (p : Pose) (j0 j1 j2 tz iz : List Float) (s :
           ∙ by_tests _ _ _ (ratio h (proj_of ms n j0 j1 j2 iz) (proj_of ms n j0 j1 j2 tz) s) to_move
           ∙ by_there
 
-      pub no_lambda : q ≡ None → Step.Refuse 9 ≡ solve_of ms n p j0 j1 j2 tz iz s rho
+      pub no_lambda : q ≡ None → Err NoStep ≡ solve_of ms n p j0 j1 j2 tz iz s rho
       no_lambda k = sym (ap (answer to_move) k) ∙ by_lambda
 
       pub one_lambda : (l : Float) → q ≡ Some l → (ep delta : Vector3) → ep ≡ proj_of ms n j0 j1 j2 (error_of n l tz iz) → delta ≡ times_of h ep →

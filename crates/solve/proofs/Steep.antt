@@ -23,8 +23,7 @@ use Rattle.stats.proofs.Rest.{own_image}
 use Rattle.pose.specs.declared.Pose.{Pose}
 use Rattle.sums.specs.Sums.{steep_of}
 use Rattle.sums.proofs.Rows.{length_steep}
-use Rattle.solve.specs.Solve.{solve_of}
-use Rattle.solve.specs.declared.Step.{Step}
+use Rattle.solve.specs.Solve.{Ended, solve_of}
 use Rattle.solve.proofs.Agree.{solve_agree}
 
 module _ (w h first last : ℕ) (order : first ≤ last) (inside : last < h) (theta : Float) (gx gy xs ys : List Float) (is_ys : ys ≡ put xs (5 * (w * h) + first * w) (rows_in first last w (steep_of w h theta gx gy))) (fits : 6 * (w * h) ≤ length xs) where
@@ -69,7 +68,7 @@ module _ (w h first last : ℕ) (order : first ≤ last) (inside : last < h) (th
 
 -- both, by the rows that were found: what the second half ends with
 module _ (ms : List ℕ) (w h : ℕ) (rows : Rows) (found : marked_rows_of ms w h ≡ Some rows) (theta : Float) (xs ys : List Float) (is_ys : ys ≡ put xs (5 * (w * h) + rows.first * w) (rows_in rows.first rows.last w (steep_of w h theta (image (w * h) 0 xs) (image (w * h) 1 xs)))) (fits : 6 * (w * h) ≤ length xs) where
-  pub steep_end : (p : Pose) (s : Stats) (rho : Float) (step : Step) →
+  pub steep_end : (p : Pose) (s : Stats) (rho : Float) (step : Ended) →
       let n = w * h in
       step ≡ solve_of ms n p (image n 5 ys) (image n 0 ys) (image n 1 ys) (image n 3 ys) (image n 4 ys) s rho →
       (ys ≡ set_image n 5 (image n 5 ys) xs)

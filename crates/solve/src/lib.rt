@@ -16,12 +16,12 @@ ghost use Rattle.solve.specs.Lambda.{lambda_of};
 ghost use Rattle.solve.specs.Solve.{moved_of, solve_of};
 
 use inverse::Vector3;
+use refusals::Refusal;
 use rows::Rows;
 
-// How a pass ends: with a refusal, with the passes' stop at a correlation, or with the next pose and the correlation.
+// How a pass ends that is not refused: with the passes' stop at a correlation, or with the next pose and the correlation.
 #[derive(Clone, Copy)]
 pub enum Step {
-    Refuse(u8),
     Stop(f32),
     Move(pose::Pose, f32),
 }
@@ -47,16 +47,16 @@ pub fn lambda_of(s: stats::Stats, image: f32, template: f32) -> Option<f32>
 }
 
 // The pose with delta added; 10 where it leaves what a pose may be.
-fn moved(at: pose::Pose, delta: Vector3, rho: f32) -> Step
+fn moved(at: pose::Pose, delta: Vector3, rho: f32) -> Result<Step, Refusal>
     ensures { result ≡ moved_of at delta rho }
 {
     let theta = at.theta + delta.0;
     let tx = at.tx + delta.1;
     let ty = at.ty + delta.2;
     if pose::is_pose(theta, tx, ty) {
-        return Step::Move(pose::Pose { theta, tx, ty }, rho);
+        return Ok(Step::Move(pose::Pose { theta, tx, ty }, rho));
     }
-    Step::Refuse(10)
+    Err(Refusal::PoseLost)
 }
 
 // Steepest descent, the sums, the inverse, lambda and the update, with the refusals 8, 9 and 10. `rows` are the first and the last that hold a
@@ -70,7 +70,7 @@ pub fn solve(
     at: pose::Pose,
     s: stats::Stats,
     rho: f32,
-) -> Step
+) -> Result<Step, Refusal>
     requires { InRange w h × (6 * (w * h) ≤ length part.old) × (words_for (w * h) ≤ length marks.now)
         × (marked_rows_of (unpacked_of marks.now (w * h)) w h ≡ Some rows) × Within at.theta 2 1 }
     ensures part_after { part.new ≡ set_image (w * h) 5 (image (w * h) 5 part.new) part.old }
@@ -83,7 +83,7 @@ pub fn solve(
     sums::steep(part, w, h, rows.first, rows.last, at.theta);
     let sums = sums::project(part, marks, n, span.from, span.to);
     let Some(h_inv) = inverse::try_inverse(sums.h) else {
-        return Step::Refuse(8);
+        return Err(Refusal::NoInverse);
     };
     let ip = sums.image_proj;
     let iph = inverse::times(h_inv, ip);
@@ -92,7 +92,7 @@ pub fn solve(
         inverse::dot(ip, iph),
         inverse::dot(sums.template_proj, iph),
     ) else {
-        return Step::Refuse(9);
+        return Err(Refusal::NoStep);
     };
     let error_proj = sums::errors(part, marks, n, span.from, span.to, lambda);
     moved(at, inverse::times(h_inv, error_proj), rho)

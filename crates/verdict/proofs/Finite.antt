@@ -1,7 +1,8 @@
 -- Rho is finite whenever it is worked out. The norms are above 1e-6, so their product is at least 2 ^ -40; the sum of products is at most 2 ^ 87; so the quotient is at most
 -- 2 ^ 127. Assumes nothing.
+use Rattle.std.specs.Prelude.{Ok, Err, Result}
 use Prim.Native.Nat.{ℕ, zero, suc, ◌+◌, ◌*◌, ◌^◌, ◌≤◌}
-use mathlib.Core.Path.{◌≡◌, refl, sym, ◌∙◌}
+use mathlib.Core.Path.{◌≡◌, refl, sym, ap, ◌∙◌}
 use mathlib.Core.Bool.{true, false, true≢false}
 use mathlib.Core.List.{[], ◌∷◌}
 use native.Mathlib.Nat.{le_trans, le_of_eq, mul-one}
@@ -28,7 +29,10 @@ use Rattle.stats.proofs.Bounds.{tmp_norm_lem, img_norm_lem, corr_within}
 use Rattle.verdict.specs.Verdict.{tiny, rho_of, verdict_of}
 use Rattle.verdict.specs.Finite.{RhoIsFinite, TooLarge}
 use Rattle.verdict.specs.declared.Verdict.{Verdict}
-use Rattle.verdict.specs.declared.Verdict.TheVariants.{Bad, Settled, Unsettled}
+use Rattle.verdict.specs.declared.Verdict.TheVariants.{Settled, Unsettled}
+use Rattle.refusals.specs.declared.Refusal.TheVariants.{RhoNotFinite, Flat}
+use Rattle.refusals.specs.declared.Refusal.{Refusal}
+use Rattle.refusals.specs.Refusals.{number}
 
 tiny_is : HasValue tiny false 8796093 (2 ^ 43)
 unfolding of_bits
@@ -63,14 +67,19 @@ module _ (a b : ℕ) (few : a + b ≤ 61) (s : Stats) (t : FromZero s.tmp_norm (
 
 -- ---- the verdict
 
+-- a verdict's number
+abbrev told : Result Verdict Refusal → ℕ
+told (Err r) = number r
+told (Ok v) = 0
+
 -- 6 and the stop are not 7
-never_bad_seven : (s : Stats) → (le s.tmp_norm tiny ≡ false → le s.img_norm tiny ≡ false → finite (rho_of s) ≡ true) → (last eps : Float) → verdict_of s last eps ≡ Bad 7 → ⊥
+never_bad_seven : (s : Stats) → (le s.tmp_norm tiny ≡ false → le s.img_norm tiny ≡ false → finite (rho_of s) ≡ true) → (last eps : Float) → verdict_of s last eps ≡ Err RhoNotFinite → ⊥
 unfolding verdict_of
 never_bad_seven s f last eps =
-    let P : Verdict → Type 0 = λ v. v ≡ Bad 7 → ⊥ in
-    let flat : P (Bad 6) = λ q. let z : ◌≡◌ {A = ℕ} 6 7 = cc in omega arith in
-    let here : (rho : Float) → P (Settled rho) × P (Unsettled rho) = λ rho. (λ q. let z : ◌≡◌ {A = ℕ} 0 1 = cc in omega arith, λ q. let z : ◌≡◌ {A = ℕ} 0 1 = cc in omega arith) in
-    either P _ _ _ (λ e. flat) (λ ft. either P _ _ _ (λ e. flat) (λ fi. either P _ _ _ (λ e. pick_both P _ _ _ (here _).0 (here _).1) (λ e. absurd (true≢false (sym (f ft fi) ∙ e)))))
+    let P : Result Verdict Refusal → Type 0 = λ v. v ≡ Err RhoNotFinite → ⊥ in
+    let flat : P (Err Flat) = λ q. let z : told (Err Flat) ≡ told (Err RhoNotFinite) = ap told q in omega (arith, z) in
+    let here : (v : Verdict) → P (Ok v) = λ v q. let z : told (Ok v) ≡ told (Err RhoNotFinite) = ap told q in omega (arith, z) in
+    either P _ _ _ (λ e. flat) (λ ft. either P _ _ _ (λ e. flat) (λ fi. either P _ _ _ (λ e. pick_both P _ _ _ (here _) (here _)) (λ e. absurd (true≢false (sym (f ft fi) ∙ e)))))
 
 pub rho_is_finite : RhoIsFinite
 rho_is_finite marks n a b template warped N A B few ht hw =

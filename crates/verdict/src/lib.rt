@@ -6,12 +6,12 @@
 ghost use Rattle.std.specs.Prelude.{◌≡◌};
 ghost use Rattle.verdict.specs.Verdict.{stops, verdict_of};
 
+use refusals::Refusal;
 use stats::Stats;
 
+// Where the tests pass: the correlation, and whether it has settled.
 #[derive(Clone, Copy)]
 pub enum Verdict {
-    Bad(u8),
-    // The correlation, in both.
     Settled(f32),
     Unsettled(f32),
 }
@@ -24,21 +24,21 @@ fn settled(rho: f32, last: f32, eps: f32) -> bool
 }
 
 // The verdict over the statistics of a pass: 6, 7, or whether the correlation has settled within eps of the last one.
-pub fn judge(s: Stats, last: f32, eps: f32) -> Verdict
+pub fn judge(s: Stats, last: f32, eps: f32) -> Result<Verdict, Refusal>
     ensures { result ≡ verdict_of s last eps }
 {
     if s.tmp_norm <= 0.000001 {
-        return Verdict::Bad(6);
+        return Err(Refusal::Flat);
     }
     if s.img_norm <= 0.000001 {
-        return Verdict::Bad(6);
+        return Err(Refusal::Flat);
     }
     let rho = s.corr / (s.img_norm * s.tmp_norm);
     if !numbers::is_finite(rho) {
-        return Verdict::Bad(7);
+        return Err(Refusal::RhoNotFinite);
     }
     if settled(rho, last, eps) {
-        return Verdict::Settled(rho);
+        return Ok(Verdict::Settled(rho));
     }
-    Verdict::Unsettled(rho)
+    Ok(Verdict::Unsettled(rho))
 }

@@ -3,10 +3,10 @@ use mathlib.Core.Path.{sym, ap, ◌∙◌}
 use Rattle.pose.specs.Pose.{matrix_of}
 use Rattle.pose.proofs.matrix_of.Goals as goal
 
-pub returns-in-Refused : goal.returns-in-Refused
+pub returns-in-None : goal.returns-in-None
 unfolding matrix_of
-returns-in-Refused c = cc
+returns-in-None c = cc
 
-pub returns-in-Posed : goal.returns-in-Posed
+pub returns-in-Some : goal.returns-in-Some
 unfolding matrix_of
-returns-in-Posed c = c.posed_matrix.ensures ∙ sym (ap matrix_of c.in-Posed.is)
+returns-in-Some c = c.posed_matrix.ensures ∙ sym (ap matrix_of c.in-Some.is)
