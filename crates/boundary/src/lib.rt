@@ -10,7 +10,7 @@ ghost use Rattle.boundary.specs.Boundary.{config_of, pixel_count_of, fronted, co
 
 use driver::Pins;
 use inverse::Matrix3;
-use pose::{Answer, Outcome};
+use pose::{Answer, Outcome, Posed};
 use settings::EccConfig;
 
 pub fn config(eps: f32, max_iter: usize, filter: usize, edge: usize) -> EccConfig
@@ -73,8 +73,8 @@ pub fn put_pose(a: Answer, out: &mut [f32])
     ensures { out.new ≡ fronted (pose_of a) out.old }
 {
     match a {
-        Answer::Refused(_) => put_four(0.0, 0.0, 0.0, 0.0, out),
-        Answer::Posed { theta, tx, ty, rho } => put_four(theta, tx, ty, rho, out),
+        Err(_) => put_four(0.0, 0.0, 0.0, 0.0, out),
+        Ok(p) => put_four(p.theta, p.tx, p.ty, p.rho, out),
     }
 }
 
@@ -109,17 +109,17 @@ pub fn put_pins(p: Pins, out: &mut [i16])
     out[2] = turn;
 }
 
-// An answer handed in by its number and its pose.
-pub fn handed(number: u8, theta: f32, tx: f32, ty: f32) -> Answer
+// The pose of an answer that is handed in by its number and its pose. Any number may come, also one that no refusal has.
+pub fn handed(number: u8, theta: f32, tx: f32, ty: f32) -> Option<Posed>
     ensures { result ≡ handed_of number theta tx ty }
 {
     if number == 0 {
-        return Answer::Posed {
+        return Some(Posed {
             theta,
             tx,
             ty,
             rho: 0.0,
-        };
+        });
     }
-    Answer::Refused(number)
+    None
 }

@@ -24,7 +24,7 @@ use Rattle.pose.specs.declared.Pose.{Pose}
 use Rattle.pose.specs.declared.Outcome.{Outcome}
 use Rattle.places.specs.Point.{marks_of}
 use Rattle.stats.specs.Stats.{mean_of, centred_of}
-use Rattle.solve.specs.declared.Step.{Step}
+use Rattle.solve.specs.Solve.{Ended}
 use Rattle.pass.specs.Pass.{weighed_of, pass_of}
 use Rattle.runs.specs.Runs.{Run, going, stopped, refused, landed, next, after, outcome_of}
 use Rattle.alignment.specs.Aligned.{pass_in, run_of, aligned_of}
@@ -47,10 +47,10 @@ module _ (xs ys : List Float) where
         (λ i l. pick_agree (on marks i) (on marks i) _ _ 0f 0f refl (λ e. ap₂ ◌⊖◌ (alike i l e) mean_same) (λ e. refl))
 
   module _ (input gx gy : List Float) (w h : ℕ) (eps : Float) where
-    abbrev one : Pose → Float → Step
+    abbrev one : Pose → Float → Ended
     one = pass_of xs input gx gy w h eps
 
-    abbrev other : Pose → Float → Step
+    abbrev other : Pose → Float → Ended
     other = pass_of ys input gx gy w h eps
 
     pass_same : (p : Pose) (last : Float) → ((i : ℕ) → i < w * h → on (marks_of (affine_from_theta_tx_ty p) w h) i ≡ true → get_or xs i nan ≡ get_or ys i nan) → one p last ≡ other p last

@@ -1,6 +1,7 @@
 -- Demand 1, for any input: past the checks an answer is a pose of four finite numbers, theta in -2..2, or a refusal from 5 to 10, after max_iter
 -- passes at the most; before them it is a refusal from 1 to 4 with no pass. So the answer's number says whether work and marks were cleared.
 -- Assumes nothing.
+use Rattle.std.specs.Prelude.{Ok, Err}
 use Prim.Native.Nat.{ℕ, zero, suc, ◌+◌, ◌-◌, ◌*◌, ◌≤◌, ◌<◌}
 use mathlib.Core.Path.{◌≡◌, refl, sym, ap, subst, ◌∙◌}
 use mathlib.Core.Bool.{Bool, true, false, not, ◌&&◌, ◌||◌}
@@ -9,7 +10,7 @@ use mathlib.Core.Logic.{◌⊎◌, inl, inr}
 use native.Mathlib.Nat.{eq-or-lt_of_le}
 use native.Mathlib.Omega.{arith}
 use borrow.Author.Tests.{lt-ltb, eq-eqb, eqb-true, eqb-false}
-use lib.Dec.{T, ltb, eqb, lit≤}
+use lib.Dec.{T, ltb, leb, eqb, lit≤}
 use lib.Ieee.{Float, nan, inf, fin, up, down, neg, le, of_bits}
 use lib.Ieee.Fits.{and_l, and_r, down_pos}
 use lib.Ieee.Scale.{finite}
@@ -24,13 +25,14 @@ use Rattle.settings.specs.declared.EccConfig.{EccConfig}
 use Rattle.prepare.specs.Prepared.{prepared_of}
 use Rattle.checks.specs.Checks.{size_of, room_of, limits_of, check_of}
 use Rattle.checks.proofs.Past.{past}
-use Rattle.pose.specs.Pose.{number_of, unscaled_of, told_of}
+use Rattle.refusals.specs.Refusals.{number, refusal_of}
+use Rattle.refusals.specs.declared.Refusal.{Refusal}
+use Rattle.pose.specs.Pose.{Answer, number_of, unscaled_of, told_of}
+use Rattle.pose.specs.declared.Posed.{Posed}
 use Rattle.pose.specs.declared.Pose.{Pose}
-use Rattle.pose.specs.declared.Answer.{Answer}
-use Rattle.pose.specs.declared.Answer.TheVariants.{Posed, Refused}
 use Rattle.pose.specs.declared.Outcome.{Outcome}
-use Rattle.solve.specs.declared.Step.{Step}
-use Rattle.solve.specs.declared.Step.TheVariants.{Refuse, Stop, Move}
+use Rattle.solve.specs.Solve.{Ended}
+use Rattle.solve.specs.declared.Step.TheVariants.{Stop, Move}
 use Rattle.pass.specs.Pass.{stats_at}
 use Rattle.runs.specs.Runs.{Run, going, stopped, refused, start, landed, next, after, outcome_of}
 use Rattle.runs.proofs.Moves.{Sound, Refusals, SevenOrFinite, pass_sound}
@@ -50,14 +52,14 @@ module _ (N : ℕ → Type 0) where
   abbrev SoundRun : ℕ → Run → Type 0
   SoundRun m (going k p rho last) = (k ≤ m) × Within p.theta 2 1 × (finite rho ≡ true)
   SoundRun m (stopped k p rho) = (k ≤ m) × Within p.theta 2 1 × (finite rho ≡ true)
-  SoundRun m (refused k n) = (k ≤ m) × N n
+  SoundRun m (refused k r) = (k ≤ m) × N (number r)
 
-  module _ (pass : Pose → Float → Step) (sound : (p : Pose) (last : Float) → Sound N (pass p last)) where
-    landed_sound : (m k : ℕ) (p : Pose) → k ≤ m → Within p.theta 2 1 → (x : Step) → Sound N x → SoundRun (suc m) (landed k p x)
+  module _ (pass : Pose → Float → Ended) (sound : (p : Pose) (last : Float) → Sound N (pass p last)) where
+    landed_sound : (m k : ℕ) (p : Pose) → k ≤ m → Within p.theta 2 1 → (x : Ended) → Sound N x → SoundRun (suc m) (landed k p x)
     unfolding landed Sound
-    landed_sound m k p h t (Refuse n) s = (omega (arith, h), s)
-    landed_sound m k p h t (Stop rho) s = (omega (arith, h), t, s)
-    landed_sound m k p h t (Move q rho) s = (omega (arith, h), s.0, s.1)
+    landed_sound m k p h t (Err r) s = (omega (arith, h), s)
+    landed_sound m k p h t (Ok (Stop rho)) s = (omega (arith, h), t, s)
+    landed_sound m k p h t (Ok (Move q rho)) s = (omega (arith, h), s.0, s.1)
 
     next_sound : (m : ℕ) (r : Run) → SoundRun m r → SoundRun (suc m) (next pass r)
     unfolding next
@@ -99,8 +101,8 @@ turn_in (fin true m e) w =
 -- what passes come to: a pose as demand 1 asks, or a refusal with one of the numbers N
 module _ (N : ℕ → Type 0) where
   abbrev pub Late : Answer → Type 0
-  Late (Posed theta tx ty rho) = T (ends_in 1 10 (Posed theta tx ty rho))
-  Late (Refused n) = N n
+  Late (Ok p) = T (ends_in 1 10 (Ok p))
+  Late (Err r) = N (number r)
 
   abbrev pub Ends : ℕ → Outcome → Type 0
   Ends m o = (o.passes ≤ m) × Late o.answer
@@ -162,18 +164,22 @@ is_false false t = refl
 -- 5 to 10 are of the table, and clear
 late : (a : Answer) → Late FiveToTen a → T (ends_in 1 10 a) × (clears (number_of a) ≡ true)
 unfolding ends_in told_of clears every
-late (Posed theta tx ty rho) t = (t, refl)
-late (Refused n) t =
-    let b = numbers 5 6 (λ n. ends_in 1 10 (Refused n) && clears n) tt n t.0 (omega (arith, t.1)) in
-    (and_l (ends_in 1 10 (Refused n)) (clears n) b, is_true (clears n) (and_r (ends_in 1 10 (Refused n)) (clears n) b))
+late (Ok p) t = (t, refl)
+late (Err r) t =
+    let n = number r in
+    let told : ℕ → Bool = λ n. leb 1 n && leb n 10 in
+    let b = numbers 5 6 (λ n. told n && clears n) tt n t.0 (omega (arith, t.1)) in
+    (and_l (told n) (clears n) b, is_true (clears n) (and_r (told n) (clears n) b))
 
 -- 1 to 4 are of the table, and do not
-early : (n : ℕ) → n ≤ 4 → eqb n 0 ≡ false → T (ends_in 1 10 (Refused n)) × (clears n ≡ false)
-unfolding ends_in clears every
+early : (n : ℕ) → n ≤ 4 → eqb n 0 ≡ false → T (ends_in 1 10 (Err (refusal_of n))) × (clears (number (refusal_of n)) ≡ false)
+unfolding ends_in clears every refusal_of pick
 early n h e =
     let some = eqb-false n 0 e in
-    let b = numbers 1 4 (λ n. ends_in 1 10 (Refused n) && not (clears n)) tt n (omega (arith, some)) (omega (arith, h)) in
-    (and_l (ends_in 1 10 (Refused n)) (not (clears n)) b, is_false (clears n) (and_r (ends_in 1 10 (Refused n)) (not (clears n)) b))
+    let told : ℕ → Bool = λ n. ends_in 1 10 (Err (refusal_of n)) in
+    let stays : ℕ → Bool = λ n. clears (number (refusal_of n)) in
+    let b = numbers 1 4 (λ n. told n && not (stays n)) tt n (omega (arith, some)) (omega (arith, h)) in
+    (and_l (told n) (not (stays n)) b, is_false (stays n) (and_r (told n) (not (stays n)) b))
 
 -- ---- the call
 
@@ -189,19 +195,19 @@ module _ (template input : List ℕ) (w h : ℕ) (cfg : EccConfig) where
   run_ends tw th = run_among FiveToTen five_to_ten tw th (λ p. inl (lit≤ tt, lit≤ tt))
 
   module _ (k m : ℕ) where
-    abbrev number : ℕ
-    number = check_of (length template) (length input) w h cfg k m
+    abbrev check : ℕ
+    check = check_of (length template) (length input) w h cfg k m
 
     -- the answer, and that its number tells whether the checks were passed
-    pub call_ends : let a = (aligned_of template input w h cfg k m).answer in T (ends_in 1 10 a) × (clears (number_of a) ≡ eqb number 0)
+    pub call_ends : let a = (aligned_of template input w h cfg k m).answer in T (ends_in 1 10 a) × (clears (number_of a) ≡ eqb check 0)
     unfolding aligned_of told_of pick
     call_ends =
-        choose (eqb number 0)
+        choose (eqb check 0)
         (λ yes. rw yes (late _ (run_ends _ _).1))
-        (λ no. rw no (early number (check_ends _ _ w h cfg k m) no))
+        (λ no. rw no (early check (check_ends _ _ w h cfg k m) no))
 
   -- THE THEOREM, of the definitions that the alignment's contract cites
-  pub memory_ends : (work : List Float) (marks : List ℕ) → (let n = size_of cfg w h in let c = number (length work) (length marks) in
+  pub memory_ends : (work : List Float) (marks : List ℕ) → (let n = size_of cfg w h in let c = check (length work) (length marks) in
       CallEnded n cfg.max_iter (aligned_of template input w h cfg (length work) (length marks)) work (work_after c n work) marks (marks_after c n marks))
   unfolding aligned_of work_after marks_after
   memory_ends work marks =

@@ -1,18 +1,17 @@
 -- How a call of the alignment may end: what demand 1 asks of its answer, its passes and the lent memory, by the answer's number. Definitions only.
-use Rattle.std.specs.Prelude.{ℕ, ◌*◌, ◌≤◌, ◌≡◌, Bool, true, false, ◌&&◌, ◌||◌, List, ◌++◌, T, leb, eqb, length, drop, replicate, Float}
+use Rattle.std.specs.Prelude.{ℕ, ◌*◌, ◌≤◌, ◌≡◌, Bool, true, false, ◌&&◌, ◌||◌, List, ◌++◌, T, leb, eqb, length, drop, replicate, Float, Ok, Err}
 use Rattle.std.specs.Float.Ieee.{neg, le}
 use Rattle.std.specs.Float.Ieee.Scale.{finite}
 use Rattle.lists.specs.Marked.{words_for}
 use Rattle.floats.specs.F32.{0f, 2f}
-use Rattle.pose.specs.Pose.{number_of}
-use Rattle.pose.specs.declared.Answer.{Answer}
-use Rattle.pose.specs.declared.Answer.TheVariants.{Posed, Refused}
+use Rattle.refusals.specs.Refusals.{number}
+use Rattle.pose.specs.Pose.{Answer, number_of}
 use Rattle.pose.specs.declared.Outcome.{Outcome}
 
 -- a pose of four finite numbers with theta in -2..2, or a refusal number from a to b
 unfoldable pub ends_in : ℕ → ℕ → Answer → Bool
-ends_in a b (Posed theta tx ty rho) = finite theta && finite tx && finite ty && finite rho && le (neg 2f) theta && le theta 2f
-ends_in a b (Refused n) = leb a n && leb n b
+ends_in a b (Ok p) = finite p.theta && finite p.tx && finite p.ty && finite p.rho && le (neg 2f) p.theta && le p.theta 2f
+ends_in a b (Err r) = leb a (number r) && leb (number r) b
 
 -- the numbers with which passes were begun, and work and marks are left cleared: 0, and 5 to 10
 unfoldable pub clears : ℕ → Bool

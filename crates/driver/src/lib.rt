@@ -1,6 +1,6 @@
 // The numbers for the pins: how far an answer moves the middle of the frame, in 1/256 pixel, and its turn in 1/8192 radian, as whole numbers.
 //
-// Any answer and any sides may be handed in. A refusal gives 0, 0, 0, and so does a pose with theta, tx or ty not finite, and a side of 0 or above 4,096.
+// The pose of any answer and any sides may be handed in. No pose gives 0, 0, 0, and so does one with theta, tx or ty not finite, and a side of 0 or above 4,096.
 #![tactic(auto)]
 
 ghost use Rattle.std.specs.Prelude.{◌≡◌, ◌≤◌, not, T, is_nan};
@@ -8,7 +8,7 @@ ghost use Rattle.std.specs.Float.Ieee.Scale.{finite};
 ghost use Rattle.lists.specs.Premises.{is_side};
 ghost use Rattle.driver.specs.Pins.{pin_of, still_of, finite_of, posed_of, pins_of};
 
-use pose::Answer;
+use pose::Posed;
 
 #[derive(Clone, Copy)]
 pub struct Pins {
@@ -82,9 +82,9 @@ fn is_side(n: usize) -> bool
     n <= 4096
 }
 
-// The numbers of any answer to a frame of w by h pixels.
-pub fn pins_of(answer: Answer, w: usize, h: usize) -> Pins
-    ensures { result ≡ pins_of answer w h }
+// The numbers of any answer's pose, to a frame of w by h pixels.
+pub fn pins_of(pose: Option<Posed>, w: usize, h: usize) -> Pins
+    ensures { result ≡ pins_of pose w h }
 {
     if !is_side(w) {
         return still();
@@ -92,13 +92,8 @@ pub fn pins_of(answer: Answer, w: usize, h: usize) -> Pins
     if !is_side(h) {
         return still();
     }
-    match answer {
-        Answer::Refused(_) => still(),
-        Answer::Posed {
-            theta,
-            tx,
-            ty,
-            rho: _,
-        } => posed_pins(theta, tx, ty, (w - 1) as u64, (h - 1) as u64),
+    match pose {
+        None => still(),
+        Some(p) => posed_pins(p.theta, p.tx, p.ty, (w - 1) as u64, (h - 1) as u64),
     }
 }

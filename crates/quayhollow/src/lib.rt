@@ -23,7 +23,7 @@ use settings::EccConfig;
 fn put_state(frame: usize, w: usize, h: usize, store: usize, state: &mut [u64])
     ensures { state.new ≡ state_after frame w h store state.old }
 {
-    if aligner::entry(frame, w, h, store) != 0 {
+    if aligner::entry(frame, w, h, store).is_err() {
         return;
     }
     if state.len() < 3 {

@@ -1,8 +1,8 @@
 -- The program of document 01, a step at a time: what comes of the bytes at hand, where the reading stands after them, and how it ends. Definitions only.
-use Rattle.std.specs.Prelude.{ℕ, ◌+◌, ◌-◌, ◌≤◌, ◌<◌, ◌≡◌, Bool, true, false, List, ltb, eqb, length, take, drop}
+use Rattle.std.specs.Prelude.{ℕ, ◌+◌, ◌-◌, ◌≤◌, ◌<◌, ◌≡◌, Bool, true, false, List, ltb, eqb, length, take, drop, Err}
 use Rattle.lists.specs.Marked.{pick}
 use Rattle.settings.specs.Settings.{defaults_of}
-use Rattle.pose.specs.declared.Answer.TheVariants.{Refused}
+use Rattle.refusals.specs.declared.Refusal.TheVariants.{StoreTooShort}
 use Rattle.pose.specs.declared.Outcome.{Outcome}
 use Rattle.aligner.specs.Aligner.{fresh_of, estimate_of}
 use Rattle.aligner.specs.declared.EccAligner.{EccAligner}
@@ -21,7 +21,7 @@ use Rattle.stream.specs.declared.Step.{Step}
 
 -- the answer to a frame with a body above 1,028 bytes
 abbrev pub too_large : Outcome
-too_large = record { passes = 0; answer = Refused 13 }
+too_large = record { passes = 0; answer = Err StoreTooShort }
 
 -- the pixels of a frame at the start of s
 abbrev pub pixels_of : List ℕ → ℕ → List ℕ

@@ -12,8 +12,9 @@ ghost use Rattle.stream.specs.Memory.{store_by, work_by, marks_by, stepped_store
 
 use aligner::EccAligner;
 use lines::Line;
-use pose::{Answer, Outcome};
+use pose::Outcome;
 use records::Record;
+use refusals::Refusal;
 use settings::EccConfig;
 
 // Where the reading stands between two steps.
@@ -75,7 +76,7 @@ fn passed(state: State) -> Step
 {
     let outcome = Outcome {
         passes: 0,
-        answer: Answer::Refused(13),
+        answer: Err(Refusal::StoreTooShort),
     };
     Step {
         used: state.rest,

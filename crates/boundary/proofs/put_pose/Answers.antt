@@ -6,10 +6,10 @@ use Rattle.pose.specs.Pose.{told_of}
 use Rattle.boundary.specs.Boundary.{fronted, pose_of}
 use Rattle.boundary.proofs.put_pose.Goals as goal
 
-pub returns-in-Refused : goal.returns-in-Refused
+pub returns-in-Err : goal.returns-in-Err
 unfolding pose_of told_of
-returns-in-Refused c = c.put_four.ensures ∙ ap (λ (l : List Float). fronted l c.args.out.now) (sym (ap pose_of c.in-Refused.is))
+returns-in-Err c = c.put_four.ensures ∙ ap (λ (l : List Float). fronted l c.args.out.now) (sym (ap pose_of c.in-Err.is))
 
-pub returns-in-Posed : goal.returns-in-Posed
+pub returns-in-Ok : goal.returns-in-Ok
 unfolding pose_of told_of
-returns-in-Posed c = c.put_four-in-Posed.ensures ∙ ap (λ (l : List Float). fronted l c.args.out.now) (sym (ap pose_of c.in-Posed.is))
+returns-in-Ok c = c.put_four-in-Ok.ensures ∙ ap (λ (l : List Float). fronted l c.args.out.now) (sym (ap pose_of c.in-Ok.is))

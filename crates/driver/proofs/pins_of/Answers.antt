@@ -2,7 +2,7 @@
 use Rattle.std.proofs.Common.{◌≡◌, ◌-◌, ◌≤◌, Bool, true, false, ◌&&◌, sym, ◌∙◌, arith}
 use Rattle.driver.specs.Pins.{}
 use Rattle.lists.specs.Premises.{is_side}
-use Rattle.driver.proofs.Sides.{side_bounds, no_frame, of_refusal, of_pose}
+use Rattle.driver.proofs.Sides.{side_bounds, no_frame, of_none, of_pose}
 use Rattle.driver.proofs.pins_of.Goals as goal
 
 first_fails : (a b : Bool) → a ≡ false → (a && b) ≡ false
@@ -12,13 +12,13 @@ second_fails : (a b : Bool) → a ≡ true → b ≡ false → (a && b) ≡ fals
 second_fails a b p q = rw (p, q)
 
 pub returns-then-not-is_side : goal.returns-then-not-is_side
-returns-then-not-is_side c = c.still.ensures ∙ sym (no_frame c.args.answer _ _ (first_fails _ _ (sym c.is_side.ensures ∙ c.if-not-is_side.true)))
+returns-then-not-is_side c = c.still.ensures ∙ sym (no_frame c.args.pose _ _ (first_fails _ _ (sym c.is_side.ensures ∙ c.if-not-is_side.true)))
 
 pub returns-then-not-is_side-2 : goal.returns-then-not-is_side-2
 returns-then-not-is_side-2 c =
     let wide : is_side c.args.w ≡ true =
     sym c.is_side.ensures ∙ c.if-not-is_side.false in
-    c.still-then-not-is_side-2.ensures ∙ sym (no_frame c.args.answer _ _ (second_fails _ _ wide (sym c.is_side-2.ensures ∙ c.if-not-is_side-2.true)))
+    c.still-then-not-is_side-2.ensures ∙ sym (no_frame c.args.pose _ _ (second_fails _ _ wide (sym c.is_side-2.ensures ∙ c.if-not-is_side-2.true)))
 
 pub overflow_sub-w : goal.overflow_sub-w
 overflow_sub-w c =
@@ -56,13 +56,13 @@ posed_pins-requires c =
     (w.0, w.1, h.0, h.1) in
     let s = sides in (omega (arith, s), omega (arith, s))
 
-pub returns-in-Refused : goal.returns-in-Refused
-returns-in-Refused c = c.still-in-Refused.ensures ∙ sym (of_refusal _ _ _ _ c.in-Refused.is)
+pub returns-in-None : goal.returns-in-None
+returns-in-None c = c.still-in-None.ensures ∙ sym (of_none _ _ _ c.in-None.is)
 
-pub returns-in-Posed : goal.returns-in-Posed
-returns-in-Posed c =
+pub returns-in-Some : goal.returns-in-Some
+returns-in-Some c =
     let wide : is_side c.args.w ≡ true =
     sym c.is_side.ensures ∙ c.if-not-is_side.false in
     let high : is_side c.args.h ≡ true =
     sym c.is_side-2.ensures ∙ c.if-not-is_side-2.false in
-    c.posed_pins.ensures ∙ sym (of_pose _ _ _ _ _ _ _ c.in-Posed.is wide high)
+    c.posed_pins.ensures ∙ sym (of_pose _ _ _ _ c.in-Some.is wide high)

@@ -15,4 +15,5 @@ returns c =
       to_z-of_z w16 p.result.dy (record { sfits = g.1.0.1 }),
       to_z-of_z w16 p.result.turn (record { sfits = g.1.1.0.1 }),
       p.ensures,
+      c.ok.ensures.value,
     )
