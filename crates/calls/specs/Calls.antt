@@ -1,7 +1,7 @@
 -- When a vector of a whole call agrees with the definitions: the answer, and what work and marks hold afterwards. Definitions only.
 -- The words: the kind; w, h; the lengths of both frames; eps, max_iter, the filter, whether there is an edge, the edge; how many floats and
 -- words of marks are lent; both frames; number, passes, theta, tx, ty, rho, the matrix; how many floats and words are cleared.
-use Rattle.std.specs.Prelude.{ℕ, ◌+◌, ◌%◌, Bool, ◌&&◌, not, List, [], ◌∷◌, leb, ltb, eqb, length, get_or, Float, None, Some, Option}
+use Rattle.std.specs.Prelude.{ℕ, ◌+◌, ◌%◌, Bool, ◌&&◌, not, List, [], ◌∷◌, leb, ltb, eqb, length, get_or, Float, None, Some, Option, Ok, Err}
 use Rattle.std.specs.Float.{nan, binary32}
 use Rattle.std.specs.Float.Ieee.{neg, to_bits}
 use Rattle.lists.specs.Lists.{tab}
@@ -9,13 +9,13 @@ use Rattle.lists.specs.Marked.{pick}
 use Rattle.floats.specs.F32.{0f, 1f}
 use Rattle.settings.specs.declared.EccConfig.{EccConfig}
 use Rattle.checks.specs.Checks.{size_of, check_of}
-use Rattle.pose.specs.Pose.{matrix_of}
-use Rattle.pose.specs.declared.Answer.{Answer}
-use Rattle.pose.specs.declared.Answer.TheVariants.{Posed, Refused}
+use Rattle.pose.specs.Pose.{Answer, matrix_of}
+use Rattle.refusals.specs.Refusals.{number}
 use Rattle.pose.specs.declared.Outcome.{Outcome}
 use Rattle.alignment.specs.Aligned.{aligned_of, work_after, marks_after}
 use Rattle.words.specs.Words.{stored_at, float_of, bytes_at, all_below, floats_agree}
 use Rattle.inverse.specs.Inverse.{entries_of}
+use Rattle.std.specs.Result.{result_ok}
 
 -- the settings, from the word 5 on; an edge stands behind a word that is not 0
 unfoldable pub edge_at : List ℕ → Option ℕ
@@ -40,12 +40,12 @@ marks_agree zeros marks = all_below (length marks) (λ i. eqb (get_or marks i 0)
 
 -- number and pose, from the word `at` on: zeros for a refusal, whose number is not 0. The passes stand between them
 abbrev pub answer_agrees : List ℕ → ℕ → Answer → Bool
-answer_agrees words at (Refused k) = eqb (stored_at words at) k && not (eqb k 0) && floats_agree words (at + 2) (0f ∷ 0f ∷ 0f ∷ 0f ∷ [])
-answer_agrees words at (Posed theta tx ty rho) = eqb (stored_at words at) 0 && floats_agree words (at + 2) (theta ∷ tx ∷ ty ∷ rho ∷ [])
+answer_agrees words at (Err r) = eqb (stored_at words at) (number r) && floats_agree words (at + 2) (0f ∷ 0f ∷ 0f ∷ 0f ∷ [])
+answer_agrees words at (Ok p) = eqb (stored_at words at) 0 && floats_agree words (at + 2) (p.theta ∷ p.tx ∷ p.ty ∷ p.rho ∷ [])
 
 -- number, passes, pose and matrix
 unfoldable pub outcome_agrees : List ℕ → ℕ → Outcome → Bool
-outcome_agrees words at o = eqb o.passes (stored_at words (at + 1)) && floats_agree words (at + 6) (entries_of (matrix_of o.answer)) && answer_agrees words at o.answer
+outcome_agrees words at o = eqb o.passes (stored_at words (at + 1)) && floats_agree words (at + 6) (entries_of (matrix_of (result_ok o.answer))) && answer_agrees words at o.answer
 
 -- a call by k floats and m words of marks, its answer from the word `at` on
 unfoldable pub called_agrees : List ℕ → ℕ → List ℕ → List ℕ → ℕ → ℕ → Bool

@@ -2,16 +2,16 @@
 // numbers are those of a vector. tools/vectors/calls.rs and pins.rs say how a line is made. A vector that is not well formed does not agree.
 #![tactic(auto)]
 
-ghost use Rattle.std.specs.Prelude.{◌≡◌, ◌+◌, ◌≤◌, leb, ltb, length};
+ghost use Rattle.std.specs.Prelude.{◌≡◌, ◌+◌, ◌≤◌, leb, ltb, length, Ok, Err};
 ghost use Rattle.lists.specs.Lists.{tab};
 ghost use Rattle.lists.specs.Marked.{pick};
 ghost use Rattle.floats.specs.F32.{0f};
-ghost use Rattle.pose.specs.declared.Answer.TheVariants.{Posed, Refused};
 ghost use Rattle.words.specs.Words.{stored_at};
 ghost use Rattle.calls.specs.Calls.{edge_at, settings_at, float_before, word_before, work_agrees, marks_agree, answer_agrees, outcome_agrees, called_agrees, is_whole, call_agrees};
 ghost use Rattle.calls.specs.Pins.{pin_agrees, answer_at, pins_agree, calls_agree};
 
-use pose::{Answer, Outcome};
+use pose::{Answer, Outcome, Posed};
+use refusals::Refusal;
 use settings::EccConfig;
 use words::{bytes, float, same_floats, word};
 
@@ -117,28 +117,25 @@ fn marks_agree(marks: &[u64], zeros: u64) -> bool
 }
 
 // The number of a refusal, from the word `at` on, and zeros for its pose.
-fn refused(words: &[u64], at: usize, k: u8) -> bool
+fn refused(words: &[u64], at: usize, refusal: Refusal) -> bool
     requires { at ≤ 8412 }
-    ensures { result ≡ answer_agrees words.now at (Refused k) }
+    ensures { result ≡ answer_agrees words.now at (Err refusal) }
 {
-    if word(words, at) != (k as u64) {
-        return false;
-    }
-    if k == 0 {
+    if word(words, at) != (refusal.number() as u64) {
         return false;
     }
     same_floats(words, at + 2, 4, &[0.0, 0.0, 0.0, 0.0], 0)
 }
 
 // The number 0, from the word `at` on, and the four numbers of a pose.
-fn posed(words: &[u64], at: usize, theta: f32, tx: f32, ty: f32, rho: f32) -> bool
+fn posed(words: &[u64], at: usize, p: Posed) -> bool
     requires { at ≤ 8412 }
-    ensures { result ≡ answer_agrees words.now at (Posed theta tx ty rho) }
+    ensures { result ≡ answer_agrees words.now at (Ok p) }
 {
     if word(words, at) != 0 {
         return false;
     }
-    same_floats(words, at + 2, 4, &[theta, tx, ty, rho], 0)
+    same_floats(words, at + 2, 4, &[p.theta, p.tx, p.ty, p.rho], 0)
 }
 
 fn answer_agrees(words: &[u64], at: usize, a: Answer) -> bool
@@ -146,8 +143,8 @@ fn answer_agrees(words: &[u64], at: usize, a: Answer) -> bool
     ensures { result ≡ answer_agrees words.now at a }
 {
     match a {
-        Answer::Refused(k) => refused(words, at, k),
-        Answer::Posed { theta, tx, ty, rho } => posed(words, at, theta, tx, ty, rho),
+        Err(refusal) => refused(words, at, refusal),
+        Ok(p) => posed(words, at, p),
     }
 }
 
@@ -157,7 +154,7 @@ fn outcome_agrees(words: &[u64], at: usize, out: Outcome) -> bool
     ensures { result ≡ outcome_agrees words.now at out }
 {
     let a = out.answer;
-    let m = pose::matrix_of(a);
+    let m = pose::matrix_of(a.ok());
     let entries = [
         m.m00, m.m01, m.m02, m.m10, m.m11, m.m12, m.m20, m.m21, m.m22,
     ];
@@ -268,20 +265,20 @@ fn pin_agrees(v: i16, below: u64, size: u64) -> bool
     below == 0 && text::size(v) == size
 }
 
-// The answer's number, theta, tx, ty.
-fn answer_at(words: &[u64]) -> Answer
+// The pose of the answer with a number, theta, tx, ty: none where the number is not 0.
+fn answer_at(words: &[u64]) -> Option<Posed>
     ensures { result ≡ answer_at words.now }
 {
     let number = word(words, 1);
     if number == 0 {
-        return Answer::Posed {
+        return Some(Posed {
             theta: float(word(words, 2)),
             tx: float(word(words, 3)),
             ty: float(word(words, 4)),
             rho: 0.0,
-        };
+        });
     }
-    Answer::Refused((number % 256) as u8)
+    None
 }
 
 // The answer, the sides; dx, dy and turn.

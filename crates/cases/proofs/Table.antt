@@ -34,9 +34,10 @@ use Rattle.middle.specs.Held.{nearest_capped, difference_of}
 use Rattle.middle.specs.Motion.{motion_of}
 use Rattle.driver.specs.Pins.{pin_of, finite_of, posed_of, pins_of}
 use Rattle.cases.specs.Table.{Starred}
+use Rattle.refusals.specs.Refusals.{refusal_of}
 
 pub starred : Starred
-unfolding add sub mul div round lt is_nan of_int of_bits to_bits to_unsigned grow tab grid pick floor_of nearest_of round_of max_of sqrt_of over30_of cos_of sin_of exp_neg_of scaled_side_of side_of resized_of place_of first_of tap_of byte_of lerp_of bilinear_of resize_of gradient_x sum neg eq le over_marked count_on affine_from_theta_tx_ty sx_of sy_of inside marked_at mark_of marks_of index_of four_of warp.sample_of pixel_of warp_of is_pose identity3 affine_matrix posed_matrix matrix_of size_of room_of limits_of check_of blur_of gray_of prepare.scaled_of prepared_of gradient_y mean_of centred_of product_of stats_of rows_over_of inverse_of dot_of times_of steep_of proj_of hessian_of error_of moved_of update_of solve_of verdict_of onward weighed_of pass_of start landed next after unscaled_of outcome_of pass_in run_of aligned_of sum_over abs_of is_side units_of nearest_capped difference_of motion_of pin_of finite_of posed_of pins_of
+unfolding add sub mul div round lt is_nan of_int of_bits to_bits to_unsigned grow tab grid pick floor_of nearest_of round_of max_of sqrt_of over30_of cos_of sin_of exp_neg_of scaled_side_of side_of resized_of place_of first_of tap_of byte_of lerp_of bilinear_of resize_of gradient_x sum neg eq le over_marked count_on affine_from_theta_tx_ty sx_of sy_of inside marked_at mark_of marks_of index_of four_of warp.sample_of pixel_of warp_of is_pose identity3 affine_matrix posed_matrix matrix_of size_of room_of limits_of check_of refusal_of blur_of gray_of prepare.scaled_of prepared_of gradient_y mean_of centred_of product_of stats_of rows_over_of inverse_of dot_of times_of steep_of proj_of hessian_of error_of moved_of update_of solve_of verdict_of onward weighed_of pass_of start landed next after unscaled_of outcome_of pass_in run_of aligned_of sum_over abs_of is_side units_of nearest_capped difference_of motion_of pin_of finite_of posed_of pins_of
 starred = record {
   marks_of_5x5 = refl;
   marks_of_4x5 = refl;

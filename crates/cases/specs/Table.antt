@@ -1,5 +1,5 @@
 -- The starred cases of document 01 by their numbers: each line is one claim about the definitions that the contracts cite. Floats stand by their bit patterns.
-use Rattle.std.specs.Prelude.{◌≡◌, ℕ, ◌*◌, List, [], ◌∷◌, ◌++◌, map, ℤ, pos, neg_ℤ, Float}
+use Rattle.std.specs.Prelude.{◌≡◌, ℕ, ◌*◌, List, [], ◌∷◌, ◌++◌, map, ℤ, pos, neg_ℤ, Float, Ok, Err, Some}
 use Rattle.std.specs.Float.{binary32}
 use Rattle.std.specs.Float.Ieee.{neg, of_bits, to_bits}
 use Rattle.floats.specs.F32.{f32, 0f, 1f}
@@ -12,11 +12,12 @@ use Rattle.resize.specs.Resize.{resize_of}
 use Rattle.gradients.specs.Gradients.{gradient_x}
 use Rattle.marks.specs.Marks.{count_on}
 use Rattle.pose.specs.Pose.{affine_from_theta_tx_ty, matrix_of}
-use Rattle.pose.specs.declared.Answer.TheVariants.{Posed, Refused}
+use Rattle.refusals.specs.declared.Refusal.TheVariants.{InvalidInput, FewPixels, NoInverse}
 use Rattle.pose.specs.declared.Outcome.{Outcome}
 use Rattle.places.specs.Point.{marks_of}
 use Rattle.alignment.specs.Aligned.{aligned_of}
 use Rattle.driver.specs.Pins.{pins_of}
+use Rattle.std.specs.Result.{result_ok}
 
 -- an image by the bit patterns of its numbers
 abbrev pub patterns : List Float → List ℕ
@@ -47,7 +48,7 @@ passes k = record { eps = defaults_of.eps; max_iter = k; gauss_filt_size = defau
 
 -- dx of a pose with this bit pattern for tx, for a frame of 1x1: its middle is its one pixel
 abbrev pub dx_at : ℕ → ℤ
-dx_at b = (pins_of (Posed 0f (of_bits binary32 b) 0f 0f) 1 1).dx
+dx_at b = (pins_of (Some (record { theta = 0f; tx = of_bits binary32 b; ty = 0f; rho = 0f })) 1 1).dx
 
 -- a row 0 10 20 30 40
 abbrev pub steps : List ℕ
@@ -57,13 +58,13 @@ pub record Starred : Type 0 where
   -- 1: at rest 16 pixels of 5x5 are marked, and 12 of 4x5: number 5
   pub marks_of_5x5 : marked_at_rest 5 5 ≡ 16
   pub marks_of_4x5 : marked_at_rest 4 5 ≡ 12
-  pub too_few_marks : alike (steps ++ (steps ++ (steps ++ steps))) 4 5 defaults_of ≡ record { passes = 1; answer = Refused 5 }
+  pub too_few_marks : alike (steps ++ (steps ++ (steps ++ steps))) 4 5 defaults_of ≡ record { passes = 1; answer = Err FewPixels }
   -- 2: filter 0 and filter 2: number 1
-  pub no_filter : alike (7 ∷ []) 1 1 (filter 0) ≡ record { passes = 0; answer = Refused 1 }
-  pub even_filter : alike (7 ∷ []) 1 1 (filter 2) ≡ record { passes = 0; answer = Refused 1 }
+  pub no_filter : alike (7 ∷ []) 1 1 (filter 0) ≡ record { passes = 0; answer = Err InvalidInput }
+  pub even_filter : alike (7 ∷ []) 1 1 (filter 2) ≡ record { passes = 0; answer = Err InvalidInput }
   -- 3: max_iter 0 on a 1x1 frame: a pose, all zero, rho -1, no pass; the first row of that answer's matrix has -0.0 second
-  pub no_pass : alike (7 ∷ []) 1 1 (passes 0) ≡ record { passes = 0; answer = Posed 0f 0f 0f (neg 1f) }
-  pub no_pass_row : to_bits binary32 (matrix_of (alike (7 ∷ []) 1 1 (passes 0)).answer).m01 ≡ 0x8000_0000
+  pub no_pass : alike (7 ∷ []) 1 1 (passes 0) ≡ record { passes = 0; answer = Ok (record { theta = 0f; tx = 0f; ty = 0f; rho = neg 1f }) }
+  pub no_pass_row : to_bits binary32 (matrix_of (result_ok (alike (7 ∷ []) 1 1 (passes 0)).answer)).m01 ≡ 0x8000_0000
   -- 4: 700x350 at edge 350 becomes 350x175; 400x4 becomes 350x8; 400x12 becomes 350x11
   pub sides_halved : resized_of 350 700 350 ≡ record { w = 350; h = 175 }
   pub side_at_least_8 : resized_of 350 400 4 ≡ record { w = 350; h = 8 }
@@ -83,4 +84,4 @@ pub record Starred : Type 0 where
   pub shift_up : dx_at 0x3b00_0000 ≡ pos 1
   pub shift_down : dx_at 0xbb00_0000 ≡ neg_ℤ (pos 1)
   -- 9: 5x5, columns 0 10 20 30 40, both frames, default settings: 8 after 1 pass
-  pub no_inverse : alike (steps ++ (steps ++ (steps ++ (steps ++ steps)))) 5 5 defaults_of ≡ record { passes = 1; answer = Refused 8 }
+  pub no_inverse : alike (steps ++ (steps ++ (steps ++ (steps ++ steps)))) 5 5 defaults_of ≡ record { passes = 1; answer = Err NoInverse }

@@ -1,4 +1,5 @@
 -- Who only turns the grip feels no push. Assumes nothing.
+use Rattle.std.specs.Prelude.{Some}
 use mathlib.Core.Path.{◌≡◌, refl, ◌∙◌}
 use mathlib.Core.Bool.{true, false}
 use Prim.Native.Nat.{ℕ, ◌+◌, ◌-◌, ◌^◌, ◌≤◌}
@@ -17,7 +18,6 @@ use Rattle.series.specs.Series.{divisor_of, z_of, over30_of, cos_of, sin_of}
 use Rattle.series.specs.declared.Series.TheVariants.{Cosine, Sine}
 use Rattle.pose.specs.Pose.{is_pose, affine_from_theta_tx_ty, affine_matrix}
 use Rattle.pose.proofs.Tests.{pose_theta, pose_shifted}
-use Rattle.pose.specs.declared.Answer.TheVariants.{Posed}
 use Rattle.middle.specs.Motion.{motion_of}
 use Rattle.felt.specs.Still.{keeping_of}
 use Rattle.felt.proofs.Posed.{by_entries}
@@ -91,8 +91,8 @@ module _ (theta rho : Float) (w h : ℕ) (P : is_pose theta 0f 0f ≡ true) (W :
   unfolding minus
   still = by_entries theta tx ty (w - 1) (h - 1) (pose_shifted theta 0f 0f P tx ty tx_finite ty_finite) ∙ rw (across, along)
 
-  in_place : pins_of (Posed theta tx ty rho) w h ≡ record { dx = pos 0; dy = pos 0; turn = pin_of 8192 theta }
-  in_place = of_pose (Posed theta tx ty rho) theta tx ty rho w h refl W H ∙ still
+  in_place : pins_of (Some (record { theta = theta; tx = tx; ty = ty; rho = rho })) w h ≡ record { dx = pos 0; dy = pos 0; turn = pin_of 8192 theta }
+  in_place = of_pose (Some (record { theta = theta; tx = tx; ty = ty; rho = rho })) (record { theta = theta; tx = tx; ty = ty; rho = rho }) w h refl W H ∙ still
 
 pub turn_in_place : TurnInPlace
 unfolding tx ty minus affine_matrix affine_from_theta_tx_ty

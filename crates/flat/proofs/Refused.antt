@@ -1,4 +1,5 @@
 -- The first pass over a flat template ends the call. Assumes nothing.
+use Rattle.std.specs.Prelude.{Result, Err}
 use Prim.Native.Nat.{ℕ, zero, suc, ◌*◌, ◌^◌, ◌≤◌, ◌<◌}
 use mathlib.Core.Path.{◌≡◌, refl, sym, ap, subst, ◌∙◌}
 use mathlib.Core.Bool.{Bool, true, false}
@@ -29,13 +30,10 @@ use Rattle.places.specs.Point.{marks_of}
 use Rattle.stats.specs.Stats.{centred_of, product_of, stats_of}
 use Rattle.verdict.specs.Verdict.{tiny, verdict_of}
 use Rattle.verdict.specs.declared.Verdict.{Verdict}
-use Rattle.verdict.specs.declared.Verdict.TheVariants.{Bad}
 use Rattle.pose.specs.Pose.{affine_from_theta_tx_ty}
 use Rattle.pose.specs.declared.Pose.{Pose}
-use Rattle.pose.specs.declared.Answer.TheVariants.{Refused}
 use Rattle.pose.specs.declared.Outcome.{Outcome}
-use Rattle.solve.specs.declared.Step.{Step}
-use Rattle.solve.specs.declared.Step.TheVariants.{Refuse}
+use Rattle.solve.specs.Solve.{Ended}
 use Rattle.pass.specs.Pass.{onward, weighed_of, pass_of}
 use Rattle.runs.specs.Runs.{Run, refused, start, landed, next, after, outcome_of}
 use Rattle.alignment.specs.Aligned.{pass_in, run_of, aligned_of}
@@ -43,6 +41,8 @@ use Rattle.demands.specs.Agree.{Plain}
 use Rattle.demands.specs.Calls.{template, input, w, h, cfg, work, marks}
 use Rattle.flat.specs.Flat.{RefusedAtOnce, FlatIsRefused}
 use Rattle.flat.proofs.Sums.{squares_flat}
+use Rattle.refusals.specs.declared.Refusal.{Refusal}
+use Rattle.refusals.specs.declared.Refusal.TheVariants.{FewPixels, Flat}
 
 -- ---- the pass
 
@@ -51,18 +51,18 @@ none_is_flat : le (sqrt_of (f32 0)) tiny ≡ true
 unfolding sqrt_of le of_int of_bits
 none_is_flat = refl
 
-bad_refuses : (x : Verdict) (update : Float → Step) → x ≡ Bad 6 → onward x update ≡ Refuse 6
+bad_refuses : (x : Result Verdict Refusal) (update : Float → Ended) → x ≡ Err Flat → onward x update ≡ Err Flat
 unfolding onward
-bad_refuses x update e = ap (λ (z : Verdict). onward z update) e
+bad_refuses x update e = ap (λ (z : Result Verdict Refusal). onward z update) e
 
 module _ (xs : List Float) (w h v : ℕ) (eps : Float) (flat : (i : ℕ) → i < w * h → get_or xs i nan ≡ f32 v) (few : w * h ≤ 2 ^ 24) (least : w * h * v ≤ 2 ^ 24) where
-  weighed : (ms : List ℕ) (ys gx gy : List Float) (p : Pose) (last : Float) → 16 ≤ count_on ms (w * h) → weighed_of ms xs ys gx gy w h eps p last ≡ Refuse 6
+  weighed : (ms : List ℕ) (ys gx gy : List Float) (p : Pose) (last : Float) → 16 ≤ count_on ms (w * h) → weighed_of ms xs ys gx gy w h eps p last ≡ Err Flat
   unfolding weighed_of verdict_of stats_of
   weighed ms ys gx gy p last many =
       bad_refuses _ _ (pick_true _ _ _ (ap (λ (x : Float). le (sqrt_of x) tiny) (squares_flat ms (w * h) v xs flat (omega arith) few least) ∙ none_is_flat))
 
   -- under 16 are marked, or the template is flat
-  at_once : (ys gx gy : List Float) (p : Pose) (last : Float) → (pass_of xs ys gx gy w h eps p last ≡ Refuse 5) ⊎ (pass_of xs ys gx gy w h eps p last ≡ Refuse 6)
+  at_once : (ys gx gy : List Float) (p : Pose) (last : Float) → (pass_of xs ys gx gy w h eps p last ≡ Err FewPixels) ⊎ (pass_of xs ys gx gy w h eps p last ≡ Err Flat)
   unfolding pass_of
   at_once ys gx gy p last =
       let ms = marks_of (affine_from_theta_tx_ty p) w h in
@@ -70,22 +70,22 @@ module _ (xs : List Float) (w h v : ℕ) (eps : Float) (flat : (i : ℕ) → i <
 
 -- ---- the passes
 
-module _ (pass : Pose → Float → Step) where
+module _ (pass : Pose → Float → Ended) where
   -- a first pass that refuses is the last
-  first_is_last : (n k : ℕ) → pass (record { theta = 0f; tx = 0f; ty = 0f }) (neg 1f ⊘ 0f) ≡ Refuse n → after pass (suc k) ≡ refused 1 n
+  first_is_last : (r : Refusal) (k : ℕ) → pass (record { theta = 0f; tx = 0f; ty = 0f }) (neg 1f ⊘ 0f) ≡ Err r → after pass (suc k) ≡ refused 1 r
   unfolding after start next landed
-  first_is_last n zero e = ap (landed 0 (record { theta = 0f; tx = 0f; ty = 0f })) e
-  first_is_last n (suc k) e = ap (next pass) (first_is_last n k e)
+  first_is_last r zero e = ap (landed 0 (record { theta = 0f; tx = 0f; ty = 0f })) e
+  first_is_last r (suc k) e = ap (next pass) (first_is_last r k e)
 
-  comes_to : (sx sy : Float) (n most : ℕ) → 1 ≤ most → pass (record { theta = 0f; tx = 0f; ty = 0f }) (neg 1f ⊘ 0f) ≡ Refuse n → outcome_of sx sy (after pass most) ≡ record { passes = 1; answer = Refused n }
+  comes_to : (sx sy : Float) (r : Refusal) (most : ℕ) → 1 ≤ most → pass (record { theta = 0f; tx = 0f; ty = 0f }) (neg 1f ⊘ 0f) ≡ Err r → outcome_of sx sy (after pass most) ≡ record { passes = 1; answer = Err r }
   unfolding outcome_of
-  comes_to sx sy n zero l e = absurd (none l)
+  comes_to sx sy r zero l e = absurd (none l)
     where
       none : 1 ≤ 0 → ⊥
       none l = omega arith
-  comes_to sx sy n (suc k) l e = ap (outcome_of sx sy) (first_is_last n k e)
+  comes_to sx sy r (suc k) l e = ap (outcome_of sx sy) (first_is_last r k e)
 
-refused_is : (o : Outcome) → (o ≡ record { passes = 1; answer = Refused 5 }) ⊎ (o ≡ record { passes = 1; answer = Refused 6 }) → RefusedAtOnce o
+refused_is : (o : Outcome) → (o ≡ record { passes = 1; answer = Err FewPixels }) ⊎ (o ≡ record { passes = 1; answer = Err Flat }) → RefusedAtOnce o
 refused_is o (inl e) = record { passes = ap (λ (z : Outcome). z.passes) e; number = inl (ap (λ (z : Outcome). z.answer) e) }
 refused_is o (inr e) = record { passes = ap (λ (z : Outcome). z.passes) e; number = inr (ap (λ (z : Outcome). z.answer) e) }
 
@@ -104,9 +104,9 @@ module _ (t i : List ℕ) (w h : ℕ) (cfg : EccConfig) (v : ℕ) (P : Plain w h
   unfolding run_of pass_in
   run_refuses = refused_is _ (by (at_once _ w h v cfg.eps (λ j l. pixel_is t w h cfg.gauss_filt_size v j P.filter_one e sized l) few least _ _ _ _ _))
     where
-      by : (pass_in t i w h w h cfg (record { theta = 0f; tx = 0f; ty = 0f }) (neg 1f ⊘ 0f) ≡ Refuse 5) ⊎ (pass_in t i w h w h cfg (record { theta = 0f; tx = 0f; ty = 0f }) (neg 1f ⊘ 0f) ≡ Refuse 6) → (run_of t i w h w h cfg ≡ record { passes = 1; answer = Refused 5 }) ⊎ (run_of t i w h w h cfg ≡ record { passes = 1; answer = Refused 6 })
-      by (inl e) = inl (comes_to (pass_in t i w h w h cfg) (f32 w ⊘ f32 w) (f32 h ⊘ f32 h) 5 cfg.max_iter most e)
-      by (inr e) = inr (comes_to (pass_in t i w h w h cfg) (f32 w ⊘ f32 w) (f32 h ⊘ f32 h) 6 cfg.max_iter most e)
+      by : (pass_in t i w h w h cfg (record { theta = 0f; tx = 0f; ty = 0f }) (neg 1f ⊘ 0f) ≡ Err FewPixels) ⊎ (pass_in t i w h w h cfg (record { theta = 0f; tx = 0f; ty = 0f }) (neg 1f ⊘ 0f) ≡ Err Flat) → (run_of t i w h w h cfg ≡ record { passes = 1; answer = Err FewPixels }) ⊎ (run_of t i w h w h cfg ≡ record { passes = 1; answer = Err Flat })
+      by (inl e) = inl (comes_to (pass_in t i w h w h cfg) (f32 w ⊘ f32 w) (f32 h ⊘ f32 h) FewPixels cfg.max_iter most e)
+      by (inr e) = inr (comes_to (pass_in t i w h w h cfg) (f32 w ⊘ f32 w) (f32 h ⊘ f32 h) Flat cfg.max_iter most e)
 
   aligned_refuses : (work marks : ℕ) → check_of (length t) (length i) w h cfg work marks ≡ 0 → RefusedAtOnce (aligned_of t i w h cfg work marks)
   unfolding aligned_of

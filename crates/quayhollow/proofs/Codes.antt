@@ -1,4 +1,5 @@
 -- A code gives its number and its pass count back, and goes into 32 bits: a call's number is at most 13, and its passes are at most 1,000. Assumes nothing.
+use Rattle.std.specs.Prelude.{Ok, Err}
 use Prim.Native.Nat.{ℕ, ◌≤◌}
 use mathlib.Core.Path.{◌≡◌, ap, ◌∙◌}
 use mathlib.Core.List.{List}
@@ -12,9 +13,9 @@ use lib.ListN.{length}
 use Rattle.lists.proofs.Cases.{pick_where, pick_both}
 use Rattle.settings.specs.declared.EccConfig.{EccConfig}
 use Rattle.checks.proofs.Past.{past}
-use Rattle.pose.specs.Pose.{number_of, told_of}
-use Rattle.pose.specs.declared.Answer.{Answer}
-use Rattle.pose.specs.declared.Answer.TheVariants.{Posed, Refused}
+use Rattle.pose.specs.Pose.{Answer, number_of, told_of}
+use Rattle.refusals.specs.declared.Refusal.{Refusal}
+use Rattle.refusals.proofs.Numbered.{number_most}
 use Rattle.pose.specs.declared.Outcome.{Outcome}
 use Rattle.alignment.specs.Aligned.{aligned_of}
 use Rattle.demands.specs.Finite.{ends_in}
@@ -33,38 +34,29 @@ code_told o h = (omega arith, omega arith)
 pub handed_on : {o o' : Outcome} {n : ℕ} (xs : List Float) {ys : List Float} → o ≡ o' → n ≡ code_of o → ys ≡ fronted (pose_of o.answer) xs → (n ≡ code_of o') × (ys ≡ fronted (pose_of o'.answer) xs)
 handed_on xs e c p = (c ∙ ap code_of e, p ∙ ap (λ (o : Outcome). fronted (pose_of o.answer) xs) e)
 
-low : (a : Answer) → T (ends_in 1 10 a) → number_of a ≤ 13
-unfolding ends_in told_of
-low (Posed theta tx ty rho) t = lit≤ tt
-low (Refused n) t = le_trans (leb→le n 10 (and_r (leb 1 n) (leb n 10) t)) (lit≤ tt)
-
-refused : (n : ℕ) → n ≤ 13 → Small (record { passes = 0; answer = Refused n })
+low : (a : Answer) → number_of a ≤ 13
 unfolding told_of
-refused n h = (h, lit≤ tt)
+low (Ok p) = lit≤ tt
+low (Err r) = number_most r
+
+refused : (r : Refusal) → Small (record { passes = 0; answer = Err r })
+unfolding told_of
+refused r = (number_most r, lit≤ tt)
 
 pub aligned_small : (template input : List ℕ) (w h : ℕ) (cfg : EccConfig) (k m : ℕ) → Small (aligned_of template input w h cfg k m)
 unfolding aligned_of
 aligned_small template input w h cfg k m = (
-  low _ (call_ends template input w h cfg k m).0,
+  low _,
   pick_where (λ (o : Outcome). o.passes ≤ 1000) _ _ _
       (λ e. le_trans (run_ends template input w h cfg _ _).0 (past _ _ _ _ _ _ _ (eqb-true _ _ e)).passes_most) (lit≤ tt),
 )
 
-abbrev Low : ℕ → Type 0
-Low n = n ≤ 13
-
 pub estimate_small : (a : EccAligner) (frame : List ℕ) (w h : ℕ) (store : List ℕ) (k m : ℕ) → Small (estimate_of a frame w h store k m).outcome
-unfolding estimate_of answer_of entry_of known_of
+unfolding estimate_of answer_of
 estimate_small a frame w h store k m =
     pick_both (λ (r : Reply). Small r.outcome) _ _ _
-    (pick_both Small _ _ _ (aligned_small _ _ _ _ _ _ _) (refused _ known))
-    (refused _ entry)
-  where
-    known : Low (known_of a w h)
-    known = pick_both Low _ _ _ (pick_both Low _ _ _ (pick_both Low _ _ _ (lit≤ tt) (lit≤ tt)) (lit≤ tt)) (lit≤ tt)
-
-    entry : Low (entry_of (length frame) w h (length store))
-    entry = pick_both Low _ _ _ (lit≤ tt) (pick_both Low _ _ _ (lit≤ tt) (pick_both Low _ _ _ (pick_both Low _ _ _ (lit≤ tt) (lit≤ tt)) (lit≤ tt)))
+    (pick_both Small _ _ _ (aligned_small _ _ _ _ _ _ _) (refused _))
+    (refused _)
 
 pub outcomes_small : OutcomesSmall
 outcomes_small = record { aligned = aligned_small; estimated = estimate_small }

@@ -1,11 +1,11 @@
 -- Each number from 1 to 13 has its refusal, and each refusal its number: each is tried. What a check answers, by its number. Assumes nothing.
-use Rattle.std.specs.Prelude.{Ok, Err, Result}
+use Rattle.std.specs.Prelude.{Ok, Err, Result, is_err}
 use Prim.Native.Nat.{ℕ, ◌+◌, ◌-◌, ◌≤◌}
 use mathlib.Core.Path.{◌≡◌, refl, ap, subst, ◌∙◌}
-use mathlib.Core.Bool.{Bool, true, false}
+use mathlib.Core.Bool.{Bool, true, false, not}
 use native.Mathlib.Omega.{arith}
 use borrow.Author.Tests.{eqb-true}
-use lib.Dec.{T, eqb}
+use lib.Dec.{T, eqb, lit≤}
 use Rattle.lists.specs.Marked.{pick}
 use Rattle.lists.proofs.Cases.{choose, pick_true, pick_false}
 use Rattle.lists.proofs.Every.{every, every_at}
@@ -48,6 +48,22 @@ pub passes : (n : ℕ) → 0 ≡ n → Ok tt ≡ checked n
 unfolding checked pick
 passes n e = ap checked e
 
+-- every number is of the table
+pub number_most : (r : Refusal) → number r ≤ 13
+number_most InvalidInput = lit≤ tt
+number_most SideTooLarge = lit≤ tt
+number_most SettingTooLarge = lit≤ tt
+number_most RoomTooShort = lit≤ tt
+number_most FewPixels = lit≤ tt
+number_most Flat = lit≤ tt
+number_most RhoNotFinite = lit≤ tt
+number_most NoInverse = lit≤ tt
+number_most NoStep = lit≤ tt
+number_most PoseLost = lit≤ tt
+number_most NoPrevious = lit≤ tt
+number_most OtherSides = lit≤ tt
+number_most StoreTooShort = lit≤ tt
+
 -- ---- and back: what a check's answer says of its number
 
 -- 1 for a refusal
@@ -73,3 +89,13 @@ is_passed n u e =
     choose (eqb n 0)
     (λ y. eqb-true _ _ y)
     (λ f. let z : failed (Ok u) ≡ failed (Err (refusal_of n)) = ap failed (e ∙ pick_false _ _ _ f) in absurd (omega (arith, z)))
+
+failed_by : (b : Bool) (r : Refusal) → is_err (pick b (Ok (tt {0})) (Err r)) ≡ not b
+unfolding pick
+failed_by true r = refl
+failed_by false r = refl
+
+-- a check fails where its number is not 0
+pub fails_is : (n : ℕ) → is_err (checked n) ≡ not (eqb n 0)
+unfolding checked
+fails_is n = failed_by (eqb n 0) (refusal_of n)

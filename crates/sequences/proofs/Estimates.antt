@@ -1,4 +1,5 @@
 -- How a call of `estimate` ends, by the check that refuses it or by the alignment's answer. Assumes nothing.
+use Rattle.std.specs.Prelude.{Ok, Err}
 use Prim.Native.Nat.{ℕ, ◌*◌, ◌≤◌}
 use mathlib.Core.Path.{◌≡◌, refl, sym, ap, subst, ◌∙◌}
 use mathlib.Core.Bool.{Bool, true, false, ◌&&◌, true≢false}
@@ -6,7 +7,7 @@ use mathlib.Core.List.{List, ◌++◌}
 use native.Mathlib.Nat.{zero-add}
 use native.Mathlib.Omega.{arith}
 use borrow.Author.Tests.{le-ltb, eq-eqb, eqb-true}
-use lib.Dec.{T, eqb}
+use lib.Dec.{T, eqb, leb}
 use lib.Ieee.{Float}
 use lib.Ieee.Fits.{and_l, and_r}
 use lib.ListN.{length, take, drop}
@@ -20,9 +21,7 @@ use Rattle.floats.specs.F32.{0f}
 use Rattle.settings.specs.declared.EccConfig.{EccConfig}
 use Rattle.checks.specs.Checks.{size_of, room_of, limits_of, check_of}
 use Rattle.checks.proofs.Past.{past}
-use Rattle.pose.specs.Pose.{number_of, told_of}
-use Rattle.pose.specs.declared.Answer.{Answer}
-use Rattle.pose.specs.declared.Answer.TheVariants.{Posed, Refused}
+use Rattle.pose.specs.Pose.{Answer, number_of, told_of}
 use Rattle.pose.specs.declared.Outcome.{Outcome}
 use Rattle.alignment.specs.Aligned.{aligned_of, work_after, marks_after}
 use Rattle.aligner.specs.Aligner.{entry_of, known_of, answer_of, estimate_of, store_after, begun_of, refused_of}
@@ -32,6 +31,8 @@ use Rattle.aligner.proofs.Numbers.{taken}
 use Rattle.demands.specs.Finite.{ends_in, clears}
 use Rattle.demands.proofs.Finite.{Late, FiveToTen, numbers, is_true, run_ends}
 use Rattle.sequences.specs.Estimates.{CallMemory, frame, w, h, entering, Effect, untouched, kept, cleared, effect_of, is_taken, FrameKept, Did, EstimateEnded, EstimateEnds}
+use Rattle.refusals.specs.Refusals.{number, refusal_of}
+use Rattle.refusals.specs.declared.Refusal.{Refusal}
 
 -- ---- what the numbers tell
 
@@ -41,21 +42,21 @@ Told fits c e a = T (ends_in 1 13 a) × (clears (number_of a) ≡ c) × (effect_
 
 -- a number with no pass, if it is one
 abbrev Number : Bool → Effect → ℕ → Type 0
-Number fits e n = eqb n 0 ≡ false → Told fits false e (Refused n)
+Number fits e n = eqb n 0 ≡ false → Told fits false e (Err (refusal_of n))
 
 none : (fits : Bool) (e : Effect) → Number fits e 0
 none fits e z = absurd (true≢false z)
 
 one_by_length : (fits : Bool) → fits ≡ false → Number fits untouched 1
-unfolding ends_in told_of clears effect_of pick
+unfolding ends_in told_of clears effect_of pick refusal_of
 one_by_length fits f z = (tt, refl, rw f refl)
 
 two : (fits : Bool) → Number fits untouched 2
-unfolding ends_in told_of clears effect_of pick
+unfolding ends_in told_of clears effect_of pick refusal_of
 two fits z = (tt, refl, refl)
 
 thirteen : (fits : Bool) → Number fits untouched 13
-unfolding ends_in told_of clears effect_of pick
+unfolding ends_in told_of clears effect_of pick refusal_of
 thirteen fits z = (tt, refl, refl)
 
 -- the aligner's first checks change nothing
@@ -67,11 +68,11 @@ entry_told t w h s =
     pick_both P _ _ _ (two f) (pick_both P _ _ _ (two f) (either P _ _ _ (λ y. pick_both P _ _ _ (thirteen f) (none f untouched)) (λ n. one_by_length f n)))
 
 eleven : (fits : Bool) → Number fits kept 11
-unfolding ends_in told_of clears effect_of pick
+unfolding ends_in told_of clears effect_of pick refusal_of
 eleven fits z = (tt, refl, refl)
 
 twelve : (fits : Bool) → Number fits kept 12
-unfolding ends_in told_of clears effect_of pick
+unfolding ends_in told_of clears effect_of pick refusal_of
 twelve fits z = (tt, refl, refl)
 
 -- no previous frame, or one of other sides: the frame is kept
@@ -82,15 +83,15 @@ known_told fits a w h =
     pick_both P _ _ _ (pick_both P _ _ _ (pick_both P _ _ _ (none fits kept) (twelve fits)) (twelve fits)) (eleven fits)
 
 one : Number true kept 1
-unfolding ends_in told_of clears effect_of pick
+unfolding ends_in told_of clears effect_of pick refusal_of
 one z = (tt, refl, refl)
 
 three : Number true kept 3
-unfolding ends_in told_of clears effect_of pick
+unfolding ends_in told_of clears effect_of pick refusal_of
 three z = (tt, refl, refl)
 
 four : Number true kept 4
-unfolding ends_in told_of clears effect_of pick
+unfolding ends_in told_of clears effect_of pick refusal_of
 four z = (tt, refl, refl)
 
 -- the alignment's own checks, of sides that passed the aligner's: the frame is kept
@@ -123,11 +124,13 @@ cleared_is cleared t = refl
 
 late_told : (fits : Bool) (a : Answer) → Late FiveToTen a → Told fits true cleared a
 unfolding ends_in told_of clears effect_of pick every
-late_told fits (Posed theta tx ty rho) t = (t, refl, refl)
-late_told fits (Refused n) t =
-    let b = numbers 5 6 (λ n. ends_in 1 13 (Refused n) && (clears n && is_cleared (effect_of n fits))) tt n t.0 (omega (arith, t.1)) in
-    let c = and_r (ends_in 1 13 (Refused n)) (clears n && is_cleared (effect_of n fits)) b in (
-      and_l (ends_in 1 13 (Refused n)) (clears n && is_cleared (effect_of n fits)) b,
+late_told fits (Ok p) t = (t, refl, refl)
+late_told fits (Err r) t =
+    let n = number r in
+    let told : ℕ → Bool = λ n. leb 1 n && leb n 13 in
+    let b = numbers 5 6 (λ n. told n && (clears n && is_cleared (effect_of n fits))) tt n t.0 (omega (arith, t.1)) in
+    let c = and_r (told n) (clears n && is_cleared (effect_of n fits)) b in (
+      and_l (told n) (clears n && is_cleared (effect_of n fits)) b,
       is_true (clears n) (and_l (clears n) (is_cleared (effect_of n fits)) c),
       cleared_is (effect_of n fits) (and_r (clears n) (is_cleared (effect_of n fits)) c),
     )
@@ -166,9 +169,9 @@ module _ (x : CallMemory) (frame : List ℕ) (w h : ℕ) where
       let p = taken t w h (length x.store) e in
       record { record_is = refl; sized = p.2; room = p.3; store_is = front_kept x.store frame (w * h) p.2 }
 
-  -- refused before any pass, by the number that decides
-  refused_ends : (number : ℕ) (e : Effect) (y : CallMemory) → Told fits false e (Refused number) → Did e frame w h x y → EstimateEnded frame w h (record { passes = 0; answer = Refused number }) x y
-  refused_ends number e y l d = record { answer = l.0; few = omega arith; no_pass = λ c. refl; did = subst (λ (z : Effect). Did z frame w h x y) (sym l.2) d }
+  -- refused before any pass
+  refused_ends : (r : Refusal) (e : Effect) (y : CallMemory) → Told fits false e (Err r) → Did e frame w h x y → EstimateEnded frame w h (record { passes = 0; answer = Err r }) x y
+  refused_ends r e y l d = record { answer = l.0; few = omega arith; no_pass = λ c. refl; did = subst (λ (z : Effect). Did z frame w h x y) (sym l.2) d }
 
   -- past all checks
   begun_ends : (o : Outcome) → entry_of t w h (length x.store) ≡ 0 → check_of (w * h) t w h x.aligner.cfg k m ≡ 0 → o.passes ≤ x.aligner.cfg.max_iter → Late FiveToTen o.answer →
@@ -186,14 +189,14 @@ module _ (x : CallMemory) (frame : List ℕ) (w h : ℕ) where
       }
 
   -- THE THEOREM, of the definitions that the contract of `estimate` cites
-  abbrev number : ℕ
-  number = refused_of x.aligner t w h (length x.store) k m
+  abbrev decides : ℕ
+  decides = refused_of x.aligner t w h (length x.store) k m
 
   abbrev reply : Reply
   reply = estimate_of x.aligner frame w h x.store k m
 
   definitions_end : EstimateEnded frame w h reply.outcome x
-      (record { aligner = reply.aligner; store = store_after frame w h x.store; work = work_after number n x.work; marks = marks_after number n x.marks })
+      (record { aligner = reply.aligner; store = store_after frame w h x.store; work = work_after decides n x.work; marks = marks_after decides n x.marks })
   unfolding estimate_of answer_of aligned_of store_after work_after marks_after refused_of begun_of pick
   definitions_end =
       choose (eqb (entry_of t w h (length x.store)) 0)

@@ -1,5 +1,6 @@
 -- No call of the alignment and none of the aligner is answered with 7, nor with any other number that neither the checks give nor the passes where rho is finite.
 -- Assumes nothing.
+use Rattle.std.specs.Prelude.{Ok, Err}
 use Prim.Native.Nat.{ℕ, ◌*◌}
 use mathlib.Core.Path.{◌≡◌, sym, ap, subst}
 use mathlib.Core.Bool.{Bool, true, false, not, ◌&&◌, ◌||◌}
@@ -19,9 +20,7 @@ use Rattle.settings.specs.declared.EccConfig.{EccConfig}
 use Rattle.settings.proofs.Resizing.{resized_range}
 use Rattle.checks.specs.Checks.{check_of}
 use Rattle.checks.proofs.Past.{past}
-use Rattle.pose.specs.Pose.{number_of, told_of}
-use Rattle.pose.specs.declared.Answer.{Answer}
-use Rattle.pose.specs.declared.Answer.TheVariants.{Posed, Refused}
+use Rattle.pose.specs.Pose.{Answer, number_of, told_of}
 use Rattle.pose.specs.declared.Outcome.{Outcome}
 use Rattle.runs.proofs.Moves.{Refusals}
 use Rattle.alignment.specs.Aligned.{aligned_of}
@@ -31,6 +30,8 @@ use Rattle.aligner.specs.declared.Reply.{Reply}
 use Rattle.demands.proofs.Finite.{Late, numbers, run_among, check_ends}
 use Rattle.seven.specs.Calls.{AlignmentNeverSeven, EstimateNeverSeven}
 use Rattle.seven.proofs.Passes.{frames_never}
+use Rattle.refusals.specs.Refusals.{number, refusal_of}
+use Rattle.lists.specs.Marked.{pick}
 
 -- the numbers that the checks and the passes give where rho is finite
 abbrev pub given : ℕ → Bool
@@ -57,18 +58,22 @@ module _ (k : ℕ) (free : T (not (given k))) where
 
   late_other : (a : Answer) → Late Other a → Other (number_of a)
   unfolding told_of
-  late_other (Posed theta tx ty rho) t = other 0 tt
-  late_other (Refused n) t = t
+  late_other (Ok p) t = other 0 tt
+  late_other (Err r) t = t
 
-  pub refused_other : (n : ℕ) → Other n → NotNumber k (record { passes = 0; answer = Refused n })
+  -- a refusal before any pass, by the number that its check gives
+  abbrev pub Refuses : ℕ → Type 0
+  Refuses n = Other (number (refusal_of n))
+
+  pub refused_other : (n : ℕ) → Refuses n → NotNumber k (record { passes = 0; answer = Err (refusal_of n) })
   unfolding told_of
   refused_other n o = o
 
   -- ---- the alignment
 
-  check_other : (t i w h : ℕ) (cfg : EccConfig) (work marks : ℕ) → Other (check_of t i w h cfg work marks)
-  unfolding every
-  check_other t i w h cfg work marks = other _ (numbers 0 5 given tt (check_of t i w h cfg work marks) (omega arith) (omega (arith, check_ends t i w h cfg work marks)))
+  check_other : (t i w h : ℕ) (cfg : EccConfig) (work marks : ℕ) → Refuses (check_of t i w h cfg work marks)
+  unfolding every refusal_of pick
+  check_other t i w h cfg work marks = other _ (numbers 0 5 (λ n. given (number (refusal_of n))) tt (check_of t i w h cfg work marks) (omega arith) (omega (arith, check_ends t i w h cfg work marks)))
 
   pub aligned_other : (template input : List ℕ) → AreBytes template → AreBytes input → (w h : ℕ) (cfg : EccConfig) (work marks : ℕ) → NotNumber k (aligned_of template input w h cfg work marks)
   unfolding aligned_of
@@ -84,14 +89,37 @@ module _ (k : ℕ) (free : T (not (given k))) where
 
   -- ---- the aligner
 
-  entry_other : (t w h s : ℕ) → Other (entry_of t w h s)
-  unfolding entry_of
-  entry_other t w h s =
-      pick_both Other _ _ _ (other 2 tt) (pick_both Other _ _ _ (other 2 tt) (pick_both Other _ _ _ (pick_both Other _ _ _ (other 13 tt) (other 0 tt)) (other 1 tt)))
+  none : Refuses 0
+  unfolding refusal_of pick
+  none = other 13 tt
 
-  known_other : (a : EccAligner) (w h : ℕ) → Other (known_of a w h)
+  one : Refuses 1
+  unfolding refusal_of pick
+  one = other 1 tt
+
+  two : Refuses 2
+  unfolding refusal_of pick
+  two = other 2 tt
+
+  eleven : Refuses 11
+  unfolding refusal_of pick
+  eleven = other 11 tt
+
+  twelve : Refuses 12
+  unfolding refusal_of pick
+  twelve = other 12 tt
+
+  thirteen : Refuses 13
+  unfolding refusal_of pick
+  thirteen = other 13 tt
+
+  entry_other : (t w h s : ℕ) → Refuses (entry_of t w h s)
+  unfolding entry_of
+  entry_other t w h s = pick_both Refuses _ _ _ two (pick_both Refuses _ _ _ two (pick_both Refuses _ _ _ (pick_both Refuses _ _ _ thirteen none) one))
+
+  known_other : (a : EccAligner) (w h : ℕ) → Refuses (known_of a w h)
   unfolding known_of
-  known_other a w h = pick_both Other _ _ _ (pick_both Other _ _ _ (pick_both Other _ _ _ (other 0 tt) (other 12 tt)) (other 12 tt)) (other 11 tt)
+  known_other a w h = pick_both Refuses _ _ _ (pick_both Refuses _ _ _ (pick_both Refuses _ _ _ none twelve) twelve) eleven
 
   pub estimated_other : (a : EccAligner) (frame : List ℕ) (w h : ℕ) (store : List ℕ) (work marks : ℕ) → AreBytes frame → AreBytes store → NotNumber k (estimate_of a frame w h store work marks).outcome
   unfolding estimate_of answer_of

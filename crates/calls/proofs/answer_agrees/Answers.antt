@@ -3,10 +3,10 @@ use mathlib.Core.Path.{sym, ap, ◌∙◌}
 use Rattle.calls.specs.Calls.{answer_agrees}
 use Rattle.calls.proofs.answer_agrees.Goals as goal
 
-pub returns-in-Refused : goal.returns-in-Refused
-returns-in-Refused c =
-    let a = c.args in c.refused.ensures ∙ sym (ap (answer_agrees a.words.now a.at) c.in-Refused.is)
+pub returns-in-Err : goal.returns-in-Err
+returns-in-Err c =
+    let a = c.args in c.refused.ensures ∙ sym (ap (answer_agrees a.words.now a.at) c.in-Err.is)
 
-pub returns-in-Posed : goal.returns-in-Posed
-returns-in-Posed c =
-    let a = c.args in c.posed.ensures ∙ sym (ap (answer_agrees a.words.now a.at) c.in-Posed.is)
+pub returns-in-Ok : goal.returns-in-Ok
+returns-in-Ok c =
+    let a = c.args in c.posed.ensures ∙ sym (ap (answer_agrees a.words.now a.at) c.in-Ok.is)

@@ -3,7 +3,6 @@ use Prim.Native.Nat.{ℕ, ◌%◌}
 use mathlib.Core.Path.{sym, ap, ◌∙◌}
 use borrow.Author.Tests.{eq-eqb, ne_eqb}
 use Rattle.lists.proofs.Cases.{pick_true, pick_false}
-use Rattle.pose.specs.declared.Answer.TheVariants.{Refused}
 use Rattle.words.specs.Words.{float_of}
 use Rattle.calls.specs.Pins.{answer_at}
 use Rattle.calls.proofs.answer_at.Goals as goal
@@ -14,4 +13,4 @@ returns-then-number-eq0 c = rw (c.float.ensures ∙ ap float_of c.word.ensures, 
 
 pub returns : goal.returns
 unfolding answer_at
-returns c = ap (λ (n : ℕ). Refused (n % 256)) c.word-number.ensures ∙ sym (pick_false _ _ _ (ne_eqb _ 0 (λ e. c.if-number-eq0.false (c.word-number.ensures ∙ e))))
+returns c = sym (pick_false _ _ _ (ne_eqb _ 0 (λ e. c.if-number-eq0.false (c.word-number.ensures ∙ e))))
