@@ -32,6 +32,7 @@ use Rattle.seven.specs.Calls.{AlignmentNeverSeven, EstimateNeverSeven}
 use Rattle.seven.proofs.Passes.{frames_never}
 use Rattle.refusals.specs.Refusals.{number, refusal_of}
 use Rattle.lists.specs.Marked.{pick}
+use Rattle.refusals.specs.declared.Refusal.{Refusal}
 
 -- the numbers that the checks and the passes give where rho is finite
 abbrev pub given : ℕ → Bool
@@ -68,6 +69,11 @@ module _ (k : ℕ) (free : T (not (given k))) where
   pub refused_other : (n : ℕ) → Refuses n → NotNumber k (record { passes = 0; answer = Err (refusal_of n) })
   unfolding told_of
   refused_other n o = o
+
+  -- any refusal with one of those numbers
+  pub refused_as : (r : Refusal) → T (given (number r)) → NotNumber k (record { passes = 0; answer = Err r })
+  unfolding told_of
+  refused_as r t = other (number r) t
 
   -- ---- the alignment
 

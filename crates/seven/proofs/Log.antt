@@ -19,7 +19,8 @@ use Rattle.lines.specs.Lines.{line_of}
 use Rattle.stream.specs.Stream.{too_large, pixels_of}
 use Rattle.whole_log.specs.Log.{Log, Reader, past, from, log_n, log_from, log_of}
 use Rattle.seven.specs.Log.{EveryLine, LogNeverSeven}
-use Rattle.seven.proofs.Calls.{given, NotNumber, other, refused_other, estimated_other}
+use Rattle.seven.proofs.Calls.{given, NotNumber, refused_as, estimated_other}
+use Rattle.refusals.specs.declared.Refusal.TheVariants.{StoreTooShort}
 
 store_bytes : (frame : List ℕ) (w h : ℕ) (store : List ℕ) → AreBytes frame → AreBytes store → AreBytes (store_after frame w h store)
 unfolding store_after
@@ -43,7 +44,7 @@ module _ (k : ℕ) (free : T (not (given k))) where
     past_other large n s b =
         let rest = bytes_drop n s b in
         pick_both OtherLog _ _ _ tt
-        (pick_both OtherLog _ _ _ (line_other f too_large 0 0 (refused_other k free 13 (other k free 13 tt)), reads a store (f + 1) (drop n s) bs rest) (reads a store f (drop n s) bs rest))
+        (pick_both OtherLog _ _ _ (line_other f too_large 0 0 (refused_as k free StoreTooShort tt), reads a store (f + 1) (drop n s) bs rest) (reads a store f (drop n s) bs rest))
 
     from_other : (s : List ℕ) → AreBytes s → (r : Record) → OtherLog (from work marks rec a store f s r)
     unfolding from
