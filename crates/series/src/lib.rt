@@ -44,10 +44,8 @@ fn steps(s: Series, z: u64, top: u64, n: u64) -> u64
     ensures { (result ≡ steps_of (divisor_of s) z top n) × (result ≤ 2 ^ 30) }
 {
     let mut u: u64 = 0x4000_0000;
-    let mut i: u64 = 0;
-    while i < n {
+    for i in 0..n {
         u = step(z, divisor(s, top - i), u);
-        i += 1;
     }
     u
 }

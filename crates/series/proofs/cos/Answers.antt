@@ -1,5 +1,5 @@
 -- `series::cos` meets its contract. Assumes nothing.
-use Rattle.std.proofs.Common.{◌≡◌, ℕ, ◌-◌, ◌*◌, ◌/◌, ◌^◌, ◌<◌, ◌≤◌, sym, ap, ◌∙◌, lt_of_le_of_lt, mul-le-mul, arith, lit<}
+use Rattle.std.proofs.Common.{◌≡◌, ℕ, ◌-◌, ◌*◌, ◌/◌, ◌^◌, ◌≤◌, sym, ap, ◌∙◌, lt_of_le_of_lt, mul-le-mul, arith, lit<}
 use lib.IntN.{sub_ℕ}
 use lib.Ieee.{Float, binary32, neg}
 use Rattle.floats.proofs.Within.{round_neg}
