@@ -39,7 +39,7 @@ returns-then-left-ne0 c =
     let inside = found_in ws a.marked l.at v few c.seen.ensures r o.2 o.1 in
     let same = on ws (pick a.marked 1 0) a.i a.e l.at (l.at + r) l.invariant.0 l.invariant.2
     (λ s h. found_same ws a.marked l.at v few c.seen.ensures r o.2 o.1 s (omega arith)) in
-    rw c.least.ensures
+    rw c.min.ensures
     (record {
       low = omega arith;
       high = omega arith;

@@ -1,5 +1,5 @@
 -- `bits::pack` meets its contract. Assumes nothing.
-use Prim.Native.Nat.{◌-◌, ◌<◌}
+use Prim.Native.Nat.{◌<◌}
 use mathlib.Core.Path.{◌≡◌, refl, ◌∙◌}
 use native.Mathlib.Omega.{arith}
 use lib.ListN.{length-set}
@@ -11,19 +11,19 @@ loop-x-init c = (omega arith, refl, packed_none _ _ _)
 
 pub loop-x-smaller : goal.loop-x-smaller
 loop-x-smaller c =
-    let some : 0 < c.least-k.result =
+    let some : 0 < c.min-k.result =
     omega arith in
     omega (arith, some)
 
 pub loop-x-preserved : goal.loop-x-preserved
 loop-x-preserved c =
-    let some : 0 < c.least-k.result =
+    let some : 0 < c.min-k.result =
     omega arith in
     let l = c.loop-x in
     let a = c.args in (
       omega arith,
       simp length-set l.invariant.1,
-      packed_more a.flags.now a.words.now l.words a.p l.x c.least-k.result _ _ some (omega arith) (c.total-bits.ensures ∙ total_is a.flags.now a.p a.len c.requires.3 l.x c.least-k.result (omega arith) (omega arith)) (omega arith) l.invariant.2,
+      packed_more a.flags.now a.words.now l.words a.p l.x c.min-k.result _ _ some (omega arith) (c.total-bits.ensures ∙ total_is a.flags.now a.p a.len c.requires.3 l.x c.min-k.result (omega arith) (omega arith)) (omega arith) l.invariant.2,
     )
 
 pub returns : goal.returns
