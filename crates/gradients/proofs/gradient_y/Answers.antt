@@ -14,7 +14,7 @@ pub overflow_mul-n : goal.overflow_mul-n
 overflow_mul-n c = sides_fit _ _ (omega arith) (omega arith)
 
 pub loop-y-init : goal.loop-y-init
-loop-y-init c = (search rules, refl, rows_none _ _ _ _)
+loop-y-init c = rows_none _ _ _ _
 
 pub overflow_mul-y : goal.overflow_mul-y
 overflow_mul-y c = sides_fit _ _ (omega arith) (omega arith)
@@ -54,14 +54,11 @@ loop-y-preserved c =
     let n = a.w * a.h in
     let k = rows in
     let e : after_of a.h c.loop-y.y ≡ c.row_below-d.result = omega arith in
-    let e' : before_of c.loop-y.y ≡ c.row_above-u.result = omega arith in (
-      omega arith,
-      omega (arith, c.half_differences.auto.part),
-      row_more a.part.now (2 * n) n a.w c.loop-y.y (λ x y. after_of a.h y * a.w + x) (λ x y. before_of y * a.w + x) (omega arith, omega arith, λ x h. (rw e (omega arith), rw e' (omega arith))) _ _ c.loop-y.invariant.2 (rw (e, e') c.half_differences.ensures),
-    )
+    let e' : before_of c.loop-y.y ≡ c.row_above-u.result = omega arith in
+      row_more a.part.now (2 * n) n a.w c.loop-y.y (λ x y. after_of a.h y * a.w + x) (λ x y. before_of y * a.w + x) (omega arith, omega arith, λ x h. (rw e (omega arith), rw e' (omega arith))) _ _ c.loop-y.invariant (rw (e, e') c.half_differences.ensures)
 
 pub returns : goal.returns
 unfolding gradient_y set_image
 returns c =
     let q : c.loop-y.y ≡ c.args.h = omega arith in
-    rw q at c.loop-y.invariant.2
+    rw q at c.loop-y.invariant

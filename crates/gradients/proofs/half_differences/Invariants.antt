@@ -7,7 +7,4 @@ use Rattle.gradients.proofs.Rows.{run_of}
 use Rattle.gradients.proofs.half_differences.Given as goal
 
 abbrev pub invariant-loop-k : goal.invariant-loop-k
-invariant-loop-k l = (l.k ≤ l.m) × (length l.part ≡ length l.initial.part) × (l.part ≡ put l.initial.part l.to (run_of l.initial.part l.next l.prev l.k))
-
-abbrev pub decreases-loop-k : goal.decreases-loop-k
-decreases-loop-k l = l.m - l.k
+invariant-loop-k l = l.part ≡ put l.initial.part l.to (run_of l.initial.part l.next l.prev l.k)
