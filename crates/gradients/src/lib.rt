@@ -54,7 +54,7 @@ pub fn gradient_x(part: &mut [f32], w: usize, h: usize)
 fn row_above(y: usize) -> usize
     ensures { result ≡ before_of y }
 {
-    if y == 0 { y } else { y - 1 }
+    y.saturating_sub(1)
 }
 
 // The row below y, of h.
@@ -62,7 +62,7 @@ fn row_below(y: usize, h: usize) -> usize
     requires { y < h }
     ensures { result ≡ after_of h y }
 {
-    if y + 1 >= h { y } else { y + 1 }
+    (y + 1).min(h - 1)
 }
 
 pub fn gradient_y(part: &mut [f32], w: usize, h: usize)

@@ -26,8 +26,7 @@ fn off(ksize: usize, i: usize) -> usize
     requires { (ksize ≤ 31) × (i < ksize) }
     ensures { (result ≡ off_of ksize i) × (result ≤ 15) }
 {
-    let radius = ksize / 2;
-    if i < radius { radius - i } else { i - radius }
+    i.abs_diff(ksize / 2)
 }
 
 // The weight of the place i, before it is divided.

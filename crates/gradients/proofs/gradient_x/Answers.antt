@@ -1,9 +1,8 @@
 -- `gradients::gradient_x` meets its contract. The loop's invariant: the first y rows stand in the second image, and nothing else has changed. Assumes nothing.
-use Prim.Native.Nat.{◌+◌, ◌-◌, ◌*◌, ◌≤◌}
-use mathlib.Core.Path.{◌≡◌, refl}
+use Prim.Native.Nat.{◌+◌, ◌*◌, ◌≤◌}
+use mathlib.Core.Path.{◌≡◌}
 use native.Mathlib.Nat.{one-mul}
 use native.Mathlib.Omega.{arith}
-use borrow.Author.Rules.{rules}
 use Rattle.lists.specs.Lists.{set_image}
 use Rattle.lists.proofs.Fill.{rows_none, row_in}
 use Rattle.gradients.specs.Gradients.{before_of, after_of, gradient_x}
@@ -33,7 +32,7 @@ loop-y-preserved c =
     let a = c.args in
     let y = c.loop-y.y in
     let k = room in
-      row_more a.part.now (a.w * a.h) (a.w * a.h) a.w y (λ x y. y * a.w + after_of a.w x) (λ x y. y * a.w + before_of x) (omega arith) _ _ c.loop-y.invariant c.gradient_x_row.ensures
+    row_more a.part.now (a.w * a.h) (a.w * a.h) a.w y (λ x y. y * a.w + after_of a.w x) (λ x y. y * a.w + before_of x) (omega arith) _ _ c.loop-y.invariant c.gradient_x_row.ensures
 
 pub returns : goal.returns
 unfolding gradient_x set_image

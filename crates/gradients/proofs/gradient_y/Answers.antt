@@ -1,8 +1,7 @@
 -- `gradients::gradient_y` meets its contract. The loop's invariant: the first y rows stand in the third image, and nothing else has changed. Assumes nothing.
-use Prim.Native.Nat.{◌+◌, ◌-◌, ◌*◌, ◌≤◌}
-use mathlib.Core.Path.{◌≡◌, refl}
+use Prim.Native.Nat.{◌+◌, ◌*◌, ◌≤◌}
+use mathlib.Core.Path.{◌≡◌}
 use native.Mathlib.Omega.{arith}
-use borrow.Author.Rules.{rules}
 use Rattle.lists.specs.Lists.{set_image}
 use Rattle.lists.proofs.Fill.{rows_none, row_in}
 use Rattle.gradients.specs.Gradients.{before_of, after_of, gradient_y}
@@ -55,7 +54,7 @@ loop-y-preserved c =
     let k = rows in
     let e : after_of a.h c.loop-y.y ≡ c.row_below-d.result = omega arith in
     let e' : before_of c.loop-y.y ≡ c.row_above-u.result = omega arith in
-      row_more a.part.now (2 * n) n a.w c.loop-y.y (λ x y. after_of a.h y * a.w + x) (λ x y. before_of y * a.w + x) (omega arith, omega arith, λ x h. (rw e (omega arith), rw e' (omega arith))) _ _ c.loop-y.invariant (rw (e, e') c.half_differences.ensures)
+    row_more a.part.now (2 * n) n a.w c.loop-y.y (λ x y. after_of a.h y * a.w + x) (λ x y. before_of y * a.w + x) (omega arith, omega arith, λ x h. (rw e (omega arith), rw e' (omega arith))) _ _ c.loop-y.invariant (rw (e, e') c.half_differences.ensures)
 
 pub returns : goal.returns
 unfolding gradient_y set_image

@@ -1,7 +1,6 @@
 -- `gradients::gradient_y` meets its contract. The loop's invariant: the first y rows stand in the third image, and nothing else has changed. Assumes nothing.
-use Prim.Native.Nat.{◌+◌, ◌-◌, ◌*◌, ◌≤◌}
+use Prim.Native.Nat.{◌+◌, ◌*◌}
 use mathlib.Core.Path.{◌≡◌}
-use lib.ListN.{length}
 use Rattle.lists.specs.Lists.{grid, put, image}
 use Rattle.gradients.specs.Gradients.{before_of, after_of}
 use Rattle.gradients.proofs.Rows.{half_of}

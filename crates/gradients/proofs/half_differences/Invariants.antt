@@ -1,7 +1,5 @@
 -- `gradients::half_differences` meets its contract. The loop's invariant: the first k numbers of the run stand, and nothing else has changed. Assumes nothing.
-use Prim.Native.Nat.{◌-◌, ◌≤◌}
 use mathlib.Core.Path.{◌≡◌}
-use lib.ListN.{length}
 use Rattle.lists.specs.Lists.{put}
 use Rattle.gradients.proofs.Rows.{run_of}
 use Rattle.gradients.proofs.half_differences.Given as goal

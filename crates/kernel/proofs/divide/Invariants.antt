@@ -1,7 +1,6 @@
 -- `kernel::divide` meets its contract. The loop's invariant: the first i numbers are divided. Assumes nothing.
 use mathlib.Core.Path.{◌≡◌}
-use Prim.Native.Nat.{◌-◌, ◌≤◌}
-use lib.ListN.{length, get_or}
+use lib.ListN.{get_or}
 use lib.Ieee.{nan}
 use Rattle.lists.specs.Lists.{tab, put}
 use Rattle.floats.specs.F32.{◌⊘◌}

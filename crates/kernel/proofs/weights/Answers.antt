@@ -1,9 +1,6 @@
 -- `kernel::weights` meets its contract. The loop's invariant: the first i weights are stored and summed. Assumes nothing.
-use mathlib.Core.Path.{◌≡◌, refl, sym, ap, ◌∙◌}
-use Prim.Native.Nat.{◌-◌}
+use mathlib.Core.Path.{◌≡◌, sym, ap, ◌∙◌}
 use native.Mathlib.Omega.{arith}
-use borrow.Author.Rules.{rules}
-use lib.ListN.{length-set}
 use lib.Ieee.{Float}
 use Rattle.lists.proofs.Fill.{fill_none, front_more}
 use Rattle.floats.specs.F32.{◌⊕◌}

@@ -1,7 +1,5 @@
 -- `kernel::weights` meets its contract. The loop's invariant: the first i weights are stored and summed. Assumes nothing.
 use mathlib.Core.Path.{◌≡◌}
-use Prim.Native.Nat.{◌-◌, ◌≤◌}
-use lib.ListN.{length}
 use Rattle.lists.specs.Lists.{tab, put}
 use Rattle.floats.specs.Sums.{sum_to}
 use Rattle.kernel.specs.Kernel.{weight_of}
