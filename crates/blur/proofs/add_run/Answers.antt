@@ -21,8 +21,3 @@ loop-i-preserved c =
     let fits : a.dst + i < length xs = omega arith in
     let same : get_or (added_of xs a.dst i spot a.weight) (spot i) nan ≡ get_or xs (spot i) nan = added_before xs a.dst spot a.weight i (omega arith) (spot i) (omega arith) in
     rw c.loop-i.invariant (added_more xs a.dst spot a.weight i _ fits (ap (λ (z : Float). z ⊗ a.weight) same))
-
-pub returns : goal.returns
-returns c =
-    let end : c.loop-i.i ≡ c.args.len = omega arith in
-    rw end at c.loop-i.invariant

@@ -11,8 +11,3 @@ pub loop-i-preserved : goal.loop-i-preserved
 loop-i-preserved c =
     let a = c.args in
     rw c.loop-i.invariant (added_more a.part.now a.dst (λ _. a.src) a.weight c.loop-i.i _ (omega arith) refl)
-
-pub returns : goal.returns
-returns c =
-    let end : c.loop-i.i ≡ c.args.len = omega arith in
-    rw end at c.loop-i.invariant

@@ -15,14 +15,6 @@ use Rattle.blur.proofs.blur_pass.Goals as goal
 pub loop-y-init : goal.loop-y-init
 loop-y-init c = rows_none _ _ _ _
 
-pub blur_row-requires : goal.blur_row-requires
-blur_row-requires c =
-    let room :
-    let a = c.args in
-    c.loop-y.y * a.w + a.w ≤ a.w * a.h =
-    let a = c.args in row_in a.w c.loop-y.y a.h c.loop-y-test.true in
-    omega (arith, room)
-
 pub loop-y-preserved : goal.loop-y-preserved
 loop-y-preserved c =
     let room :

@@ -14,9 +14,6 @@ loop-k-init c =
     let a = c.args in
     taps_none a.along a.ks.now a.ksize a.w a.h a.y a.part.now (a.w * a.h + a.y * a.w) (omega arith) c.requires.6 _ c.fill_floats.ensures
 
-pub add_tap-requires : goal.add_tap-requires
-add_tap-requires c = omega (arith, c.fill_floats.auto.part, c.requires)
-
 pub loop-k-preserved : goal.loop-k-preserved
 loop-k-preserved c =
     let a = c.args in

@@ -10,20 +10,8 @@ use Rattle.lists.proofs.Every.{sides_fit}
 use Rattle.gradients.proofs.Rows.{row_more}
 use Rattle.gradients.proofs.gradient_x.Goals as goal
 
-pub overflow_mul-n : goal.overflow_mul-n
-overflow_mul-n c = sides_fit _ _ (omega arith) (omega arith)
-
 pub loop-y-init : goal.loop-y-init
 loop-y-init c = rows_none _ _ _ _
-
-pub overflow_mul-y : goal.overflow_mul-y
-overflow_mul-y c = sides_fit _ _ (omega arith) (omega arith)
-
-pub gradient_x_row-requires : goal.gradient_x_row-requires
-gradient_x_row-requires c =
-    let room : let a = c.args in let y = c.loop-y.y in y * a.w + a.w ≤ a.w * a.h =
-    let a = c.args in row_in a.w c.loop-y.y a.h c.loop-y-test.true in
-    omega (arith, room)
 
 pub loop-y-preserved : goal.loop-y-preserved
 loop-y-preserved c =

@@ -9,38 +9,8 @@ use Rattle.lists.proofs.Every.{sides_fit}
 use Rattle.gradients.proofs.Rows.{row_more}
 use Rattle.gradients.proofs.gradient_y.Goals as goal
 
-pub overflow_mul-n : goal.overflow_mul-n
-overflow_mul-n c = sides_fit _ _ (omega arith) (omega arith)
-
 pub loop-y-init : goal.loop-y-init
 loop-y-init c = rows_none _ _ _ _
-
-pub overflow_mul-y : goal.overflow_mul-y
-overflow_mul-y c = sides_fit _ _ (omega arith) (omega arith)
-
-pub overflow_add-n : goal.overflow_add-n
-overflow_add-n c =
-    let rows :
-    let a = c.args in
-    (c.loop-y.y * a.w + a.w ≤ a.w * a.h) × (c.row_below-d.result * a.w + a.w ≤ a.w * a.h) × (c.row_above-u.result * a.w + a.w ≤ a.w * a.h) =
-    let a = c.args in
-    (row_in a.w c.loop-y.y a.h (omega arith), row_in a.w c.row_below-d.result a.h (omega arith), row_in a.w c.row_above-u.result a.h (omega arith)) in
-    omega (arith, rows)
-
-pub overflow_mul-d : goal.overflow_mul-d
-overflow_mul-d c = sides_fit _ _ (omega arith) (omega arith)
-
-pub overflow_mul-u : goal.overflow_mul-u
-overflow_mul-u c = sides_fit _ _ (omega arith) (omega arith)
-
-pub half_differences-requires : goal.half_differences-requires
-half_differences-requires c =
-    let rows :
-    let a = c.args in
-    (c.loop-y.y * a.w + a.w ≤ a.w * a.h) × (c.row_below-d.result * a.w + a.w ≤ a.w * a.h) × (c.row_above-u.result * a.w + a.w ≤ a.w * a.h) =
-    let a = c.args in
-    (row_in a.w c.loop-y.y a.h (omega arith), row_in a.w c.row_below-d.result a.h (omega arith), row_in a.w c.row_above-u.result a.h (omega arith)) in
-    omega (arith, rows)
 
 pub loop-y-preserved : goal.loop-y-preserved
 loop-y-preserved c =

@@ -12,8 +12,3 @@ pub loop-k-preserved : goal.loop-k-preserved
 loop-k-preserved c =
     let a = c.args in
     run_more a.part.now a.to a.next a.prev a.m c.loop-k.k (omega arith) c.loop-k.part c.loop-k.invariant
-
-pub returns : goal.returns
-returns c =
-    let q : c.loop-k.k ≡ c.args.m = omega arith in
-    rw q at c.loop-k.invariant

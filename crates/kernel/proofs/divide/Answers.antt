@@ -20,8 +20,3 @@ loop-i-preserved c =
     let f : ℕ → Float = λ j. get_or xs j nan ⊘ a.sum in
     let same : get_or (put xs 0 (tab i f)) i nan ≡ get_or xs i nan = fill_after xs 0 f i (omega arith) i nan (omega arith) in
     rw c.loop-i.invariant (front_more xs f i _ (omega arith) (ap (λ (z : Float). z ⊘ a.sum) same))
-
-pub returns : goal.returns
-returns c =
-    let end : c.loop-i.i ≡ c.args.n = omega arith in
-    rw end at c.loop-i.invariant

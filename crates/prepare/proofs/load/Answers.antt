@@ -6,11 +6,6 @@ use native.Mathlib.Omega.{arith}
 use Rattle.prepare.proofs.Frames.{scaled_same, scaled_changed}
 use Rattle.prepare.proofs.load.Goals as goal
 
-pub gray_u8_to_f32-requires : goal.gray_u8_to_f32-requires
-gray_u8_to_f32-requires c =
-    let s = c.if-th-h.false in
-    omega (arith, ap₂ (λ (x y : ℕ). x * y) s.0 s.1)
-
 pub returns-then-th-h : goal.returns-then-th-h
 returns-then-th-h c =
     let changed : let a = c.args in a.tw ≡ a.w → a.th ≡ a.h → ⊥ =

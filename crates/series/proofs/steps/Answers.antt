@@ -2,15 +2,12 @@
 use Rattle.std.proofs.Common.{◌≡◌, ℕ, ◌-◌, ◌≤◌, sym, refl, ap, ◌∙◌, le_trans, le_of_eq, add-one, arith}
 use Rattle.series.specs.Recurrence.{u_next, steps_of}
 use Rattle.series.specs.Series.{divisor_of, lowest_of}
-use Rattle.series.proofs.Recurrence.{steps_le, last_pos, divisor_pos, divisor_le, limit_le, within_divisor}
+use Rattle.series.proofs.Recurrence.{steps_le, divisor_pos, divisor_le, limit_le, within_divisor}
 use Rattle.series.proofs.steps.Goals as goal
 
 pub loop-i-init : goal.loop-i-init
 unfolding steps_of
 loop-i-init c = refl
-
-pub overflow_sub-top : goal.overflow_sub-top
-overflow_sub-top c = omega (arith, last_pos c.args.s)
 
 pub step-u-requires : goal.step-u-requires
 step-u-requires c =
