@@ -21,7 +21,8 @@ fn add_run(part: &mut [f32], dst: usize, src: usize, len: usize, weight: f32)
     }
 }
 
-// To each of the `len` numbers from `dst` on, the one at `src` times the weight is added.
+// To each of the `len` numbers from `dst` on, the one at `src` times the weight is added. No twin of add_run: here the product is worked out
+// once, before the loop.
 fn add_same(part: &mut [f32], dst: usize, src: usize, len: usize, weight: f32)
     requires { (src < dst) × (dst + len ≤ length part.old) }
     ensures { part.new ≡ added_of part.old dst len (λ _. src) weight }
@@ -52,7 +53,7 @@ fn add_right(part: &mut [f32], dst: usize, src: usize, w: usize, n: usize, weigh
     add_same(part, dst + (w - m), src + (w - 1), m, weight);
 }
 
-// Which way a pass goes: along the rows or down the columns.
+// Which way a pass goes: along the rows or down the columns. By cases, and not by a closure: spot_of and the sums over it are by the same cases.
 #[derive(Clone, Copy)]
 enum Along {
     Rows,

@@ -10,7 +10,7 @@ ghost use Rattle.floats.specs.Units.{units_at};
 ghost use Rattle.series.specs.Recurrence.{u_next, steps_of};
 ghost use Rattle.series.specs.Series.{divisor_of, limit_of, lowest_of, z_of, y_of, squared_of, cos_of, sin_of, exp_neg_of};
 
-// Which of the three recurrences: they differ in their divisors.
+// Which of the three recurrences: they differ in their divisors. By cases, and not by a closure: divisor_of and the bounds are by the same cases.
 #[derive(Clone, Copy)]
 pub enum Series {
     Cosine,

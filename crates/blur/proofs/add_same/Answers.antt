@@ -1,5 +1,5 @@
 -- `blur::add_same` meets its contract. The loop's invariant: the first i numbers are added to. Assumes nothing.
-use mathlib.Core.Path.{◌≡◌, refl}
+use mathlib.Core.Path.{refl}
 use native.Mathlib.Omega.{arith}
 use Rattle.blur.proofs.Taps.{added_none, added_more}
 use Rattle.blur.proofs.add_same.Goals as goal

@@ -1,9 +1,7 @@
 -- `blur::add_tap` meets its contract. Assumes nothing.
 use mathlib.Core.Path.{◌≡◌, sym, ap, ◌∙◌}
-use Prim.Native.Nat.{ℕ, ◌+◌, ◌*◌, ◌≤◌, ◌<◌}
-use native.Mathlib.Nat.{mul-le-mul}
+use Prim.Native.Nat.{ℕ, ◌<◌}
 use native.Mathlib.Omega.{arith}
-use Rattle.lists.proofs.Fill.{row_in}
 use Rattle.blur.specs.declared.Along.{Along}
 use Rattle.blur.specs.Pass.{added_of, spot_of}
 use Rattle.blur.proofs.Taps.{added_ext}

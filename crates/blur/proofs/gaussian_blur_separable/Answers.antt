@@ -1,10 +1,7 @@
 -- `blur::gaussian_blur_separable` meets its contract. Assumes nothing.
-use mathlib.Core.Path.{◌≡◌, sym, ap, ◌∙◌}
-use native.Mathlib.Omega.{arith}
-use borrow.Author.Rules.{rules}
-use lib.ListN.{length, take, length-take, length-drop}
+use mathlib.Core.Path.{◌≡◌}
+use lib.ListN.{take}
 use Rattle.kernel.specs.Kernel.{kernel_of}
-use Rattle.kernel.proofs.Kernels.{length_kernel}
 use Rattle.blur.proofs.Passes.{front_is, both}
 use Rattle.blur.proofs.gaussian_blur_separable.Goals as goal
 

@@ -6,7 +6,6 @@ use native.Mathlib.Omega.{arith}
 use Rattle.lists.specs.Lists.{set_image}
 use Rattle.lists.proofs.Fill.{rows_none, row_in}
 use Rattle.gradients.specs.Gradients.{before_of, after_of, gradient_x}
-use Rattle.lists.proofs.Every.{sides_fit}
 use Rattle.gradients.proofs.Rows.{row_more}
 use Rattle.gradients.proofs.gradient_x.Goals as goal
 

@@ -1,5 +1,4 @@
 -- `gradients::half_differences` meets its contract. The loop's invariant: the first k numbers of the run stand, and nothing else has changed. Assumes nothing.
-use mathlib.Core.Path.{◌≡◌}
 use native.Mathlib.Omega.{arith}
 use Rattle.lists.proofs.Fill.{fill_none}
 use Rattle.gradients.proofs.Rows.{run_more}

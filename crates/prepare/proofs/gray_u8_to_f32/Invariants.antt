@@ -1,7 +1,5 @@
 -- `prepare::gray_u8_to_f32` meets its contract. The loop's invariant: the first i bytes stand in `out` as f32, and nothing else has changed. Assumes nothing.
-use Prim.Native.Nat.{◌-◌, ◌≤◌}
 use mathlib.Core.Path.{◌≡◌}
-use lib.ListN.{length}
 use Rattle.lists.specs.Lists.{put, tab}
 use Rattle.prepare.proofs.Frames.{gray_at}
 use Rattle.prepare.proofs.gray_u8_to_f32.Given as goal

@@ -1,8 +1,6 @@
 -- `prepare::load` meets its contract: the frame is resized just where a side changes. Assumes nothing.
-use Prim.Native.Nat.{ℕ, ◌*◌}
-use mathlib.Core.Path.{◌≡◌, ap₂}
+use mathlib.Core.Path.{◌≡◌}
 use mathlib.Core.Logic.{inl, inr}
-use native.Mathlib.Omega.{arith}
 use Rattle.prepare.proofs.Frames.{scaled_same, scaled_changed}
 use Rattle.prepare.proofs.load.Goals as goal
 
