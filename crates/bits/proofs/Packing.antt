@@ -3,7 +3,7 @@ use Prim.Native.Nat.{ℕ, zero, suc, ◌+◌, ◌-◌, ◌*◌, ◌/◌, ◌%◌
 use mathlib.Core.Path.{◌≡◌, refl, sym, ap, ap₂, ◌∙◌, subst}
 use mathlib.Core.Bool.{Bool, true, false, not}
 use mathlib.Core.List.{List}
-use native.Mathlib.Nat.{add-zero, zero-add, add_comm, add-mul, mul_assoc, one-mul, zero-mul}
+use native.Mathlib.Nat.{zero-add, add_comm, add-mul, mul_assoc, one-mul, zero-mul}
 use native.Mathlib.Numerals.{add-one}
 use native.Mathlib.Omega.{arith}
 use lib.Bits.{bit_or, or_shifted_r}
@@ -99,9 +99,6 @@ module _ (flags : List ℕ) (p len : ℕ) (b : ℕ → Bool) (are : (x : ℕ) �
   flags_are = record { are = λ x h. are x h ∙ ap (λ (t : Bool). flag_of t (p + x)) (sym (flags_on x h)) }
 
 -- ---- a row, a stretch at a time
-pub packed_none : (flags ws : List ℕ) (p : ℕ) → Packed flags p 0 ws ws
-packed_none flags ws p = record { packs = λ marks xs n f r a e. rw add-zero e }
-
 pub packed_more : (flags ws₀ ws : List ℕ) (p x l bits half : ℕ) → 0 < l → (p + x) % 64 + l ≤ 64 → bits ≡ packed_of (on flags) x l * 2 ^ ((p + x) % 32) → half ≡ (p + x) % 64 / 32 * 32 → Packed flags p x ws₀ ws →
     Packed flags p (x + l) ws₀ (set ws ((p + x) / 64) (bit_or (get_or ws ((p + x) / 64) 0) ((bits * 2 ^ half) % 2 ^ 64)))
 unfolding words_to

@@ -16,15 +16,14 @@ pub struct Stretch {
 }
 
 // The ones of the first k words.
+#[tactic(auto, using(crate::proofs::Words::ones_none, crate::proofs::Words::ones_more))]
 pub fn count(words: &[u64], k: usize) -> usize
     requires { (k ≤ length words.now) × (k ≤ 262144) }
     ensures { result ≡ ones_of words.now k }
 {
     let mut sum = 0usize;
-    let mut j = 0;
-    while j < k {
-        sum += u64::count_ones(words[j]) as usize;
-        j += 1;
+    for word in &words[..k] {
+        sum += word.count_ones() as usize;
     }
     sum
 }
@@ -45,23 +44,15 @@ pub fn flag(marked: bool, q: usize) -> u32
     if marked { bit } else { 0 }
 }
 
-// A flag as wide as a word.
-fn wide(flag: u32) -> u64
-    ensures { result ≡ flag }
-{
-    flag as u64
-}
-
 // The sum of `len` flags from `at` on. The compiler takes several at a time.
+#[tactic(auto, using(crate::proofs::Packing::total_none, crate::proofs::Packing::total_more))]
 fn total(flags: &[u32], at: usize, len: usize) -> u64
     requires { (len ≤ 32) × (at + len ≤ length flags.now) }
     ensures { result ≡ total_of flags.now at len }
 {
     let mut sum = 0u64;
-    let mut k = 0;
-    while k < len {
-        sum += wide(flags[at + k]);
-        k += 1;
+    for flag in &flags[at..at + len] {
+        sum += u64::from(*flag);
     }
     sum
 }
@@ -71,13 +62,13 @@ pub fn pack(flags: &[u32], words: &mut [u64], p: usize, len: usize)
     requires { (len ≤ length flags.now) × (p + len ≤ 64 * length words.old) × (p + len ≤ 16777216) × Flags flags.now p len }
     ensures { Packed flags.now p len words.old words.new }
 {
+    // By hand: how far a turn goes is worked out in the loop, so a range has nothing to count.
     let mut x = 0;
     while x < len {
         let q = p + x;
-        let k = numbers::least(32 - q % 32, len - x);
+        let k = (32 - q % 32).min(len - x);
         let bits = total(flags, x, k);
-        let j = q / 64;
-        words[j] = words[j] | (bits << (q % 64 / 32 * 32));
+        words[q / 64] |= bits << (q % 64 / 32 * 32);
         x += k;
     }
 }
@@ -102,14 +93,14 @@ fn first_other(words: &[u64], marked: bool, i: usize, e: usize) -> usize
     requires { (i ≤ e) × (e ≤ 64 * length words.now) × (e ≤ 16777216) }
     ensures { FirstOther words.now (pick marked 1 0) i e result }
 {
+    // By hand: a turn goes to the end of a word, so a range has nothing to count.
     let mut at = i;
     while at < e {
         let left = seen(words[at / 64], marked) >> (at % 64);
         if left != 0 {
-            let to = at + lowest(left);
-            return numbers::least(to, e);
+            return (at + lowest(left)).min(e);
         }
-        at = at + (64 - at % 64);
+        at += 64 - at % 64;
     }
     e
 }

@@ -16,23 +16,20 @@ fn add_run(part: &mut [f32], dst: usize, src: usize, len: usize, weight: f32)
     requires { (src + len ≤ dst) × (dst + len ≤ length part.old) }
     ensures { part.new ≡ added_of part.old dst len (λ i. src + i) weight }
 {
-    let mut i = 0;
-    while i < len {
-        part[dst + i] = part[dst + i] + part[src + i] * weight;
-        i += 1;
+    for i in 0..len {
+        part[dst + i] += part[src + i] * weight;
     }
 }
 
-// To each of the `len` numbers from `dst` on, the one at `src` times the weight is added.
+// To each of the `len` numbers from `dst` on, the one at `src` times the weight is added. No twin of add_run: here the product is worked out
+// once, before the loop.
 fn add_same(part: &mut [f32], dst: usize, src: usize, len: usize, weight: f32)
     requires { (src < dst) × (dst + len ≤ length part.old) }
     ensures { part.new ≡ added_of part.old dst len (λ _. src) weight }
 {
     let v = part[src] * weight;
-    let mut i = 0;
-    while i < len {
-        part[dst + i] = part[dst + i] + v;
-        i += 1;
+    for i in 0..len {
+        part[dst + i] += v;
     }
 }
 
@@ -41,7 +38,7 @@ fn add_left(part: &mut [f32], dst: usize, src: usize, w: usize, n: usize, weight
     requires { (src + w ≤ dst) × (1 ≤ w) × (dst + w ≤ length part.old) }
     ensures { part.new ≡ added_of part.old dst w (λ x. src + (x - n)) weight }
 {
-    let m = numbers::least(n, w);
+    let m = n.min(w);
     add_same(part, dst, src, m, weight);
     add_run(part, dst + m, src, w - m, weight);
 }
@@ -51,12 +48,12 @@ fn add_right(part: &mut [f32], dst: usize, src: usize, w: usize, n: usize, weigh
     requires { (src + w ≤ dst) × (1 ≤ w) × (dst + w ≤ length part.old) }
     ensures { part.new ≡ added_of part.old dst w (λ x. src + min (x + n) (w - 1)) weight }
 {
-    let m = numbers::least(n, w);
+    let m = n.min(w);
     add_run(part, dst, src + m, w - m, weight);
     add_same(part, dst + (w - m), src + (w - 1), m, weight);
 }
 
-// Which way a pass goes: along the rows or down the columns.
+// Which way a pass goes: along the rows or down the columns. By cases, and not by a closure: spot_of and the sums over it are by the same cases.
 #[derive(Clone, Copy)]
 enum Along {
     Rows,
@@ -68,11 +65,7 @@ fn held(ksize: usize, n: usize, p: usize, k: usize) -> usize
     requires { (ksize ≤ 31) × (k < ksize) × (p < n) × (n ≤ 4096) }
     ensures { (result ≡ clamped_of ksize n p k) × (result < n) }
 {
-    let radius = ksize / 2;
-    if p + k < radius {
-        return 0;
-    }
-    numbers::least(p + k - radius, n - 1)
+    (p + k).saturating_sub(ksize / 2).min(n - 1)
 }
 
 // The tap k of the row y, from the first image of the part, is added to the w numbers from `dst` on.
@@ -114,10 +107,8 @@ fn blur_row(along: Along, part: &mut [f32], ks: &[f32], w: usize, h: usize, ksiz
 {
     let dst = w * h + y * w;
     zeros::fill_floats(part, dst, w);
-    let mut k = 0;
-    while k < ksize {
+    for k in 0..ksize {
         add_tap(along, part, dst, w, h, ksize, y, k, ks[k]);
-        k += 1;
     }
 }
 
@@ -127,10 +118,8 @@ fn blur_pass(along: Along, part: &mut [f32], ks: &[f32], w: usize, h: usize, ksi
     ensures { part.new ≡ set_image (w * h) 1 (sweep_of along ks.now ksize w h (image (w * h) 0 part.old))
         part.old }
 {
-    let mut y = 0;
-    while y < h {
+    for y in 0..h {
         blur_row(along, part, ks, w, h, ksize, y);
-        y += 1;
     }
 }
 

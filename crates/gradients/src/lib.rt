@@ -18,10 +18,8 @@ fn half_differences(part: &mut [f32], to: usize, next: usize, prev: usize, m: us
     ensures { part.new ≡ put part.old to
         (tab m (λ k. half ⊗ (get_or part.old (next + k) nan ⊖ get_or part.old (prev + k) nan))) }
 {
-    let mut k = 0;
-    while k < m {
+    for k in 0..m {
         part[to + k] = 0.5 * (part[next + k] - part[prev + k]);
-        k += 1;
     }
 }
 
@@ -47,10 +45,8 @@ pub fn gradient_x(part: &mut [f32], w: usize, h: usize)
     ensures { part.new ≡ set_image (w * h) 1 (gradient_x w h (image (w * h) 0 part.old)) part.old }
 {
     let n = w * h;
-    let mut y = 0;
-    while y < h {
+    for y in 0..h {
         gradient_x_row(part, y * w, n, w);
-        y += 1;
     }
 }
 
@@ -58,7 +54,7 @@ pub fn gradient_x(part: &mut [f32], w: usize, h: usize)
 fn row_above(y: usize) -> usize
     ensures { result ≡ before_of y }
 {
-    if y == 0 { y } else { y - 1 }
+    y.saturating_sub(1)
 }
 
 // The row below y, of h.
@@ -66,7 +62,7 @@ fn row_below(y: usize, h: usize) -> usize
     requires { y < h }
     ensures { result ≡ after_of h y }
 {
-    if y + 1 >= h { y } else { y + 1 }
+    (y + 1).min(h - 1)
 }
 
 pub fn gradient_y(part: &mut [f32], w: usize, h: usize)
@@ -74,11 +70,9 @@ pub fn gradient_y(part: &mut [f32], w: usize, h: usize)
     ensures { part.new ≡ set_image (w * h) 2 (gradient_y w h (image (w * h) 0 part.old)) part.old }
 {
     let n = w * h;
-    let mut y = 0;
-    while y < h {
+    for y in 0..h {
         let u = row_above(y);
         let d = row_below(y, h);
         half_differences(part, 2 * n + y * w, d * w, u * w, w);
-        y += 1;
     }
 }

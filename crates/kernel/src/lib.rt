@@ -26,8 +26,7 @@ fn off(ksize: usize, i: usize) -> usize
     requires { (ksize ≤ 31) × (i < ksize) }
     ensures { (result ≡ off_of ksize i) × (result ≤ 15) }
 {
-    let radius = ksize / 2;
-    if i < radius { radius - i } else { i - radius }
+    i.abs_diff(ksize / 2)
 }
 
 // The weight of the place i, before it is divided.
@@ -45,12 +44,10 @@ fn weights(ksize: usize, d: f32, k: &mut [f32]) -> f32
     ensures { (result ≡ sum_to (weight_of ksize) ksize) × (k.new ≡ put k.old 0 (tab ksize (weight_of ksize))) }
 {
     let mut sum = 0.0f32;
-    let mut i = 0;
-    while i < ksize {
+    for i in 0..ksize {
         let v = weight(ksize, d, i);
         k[i] = v;
-        sum = sum + v;
-        i += 1;
+        sum += v;
     }
     sum
 }
@@ -60,11 +57,8 @@ fn divide(n: usize, sum: f32, k: &mut [f32])
     requires { n ≤ length k.old }
     ensures { k.new ≡ put k.old 0 (tab n (λ i. get_or k.old i nan ⊘ sum)) }
 {
-    let mut i = 0;
-    while i < n {
-        let v = k[i] / sum;
-        k[i] = v;
-        i += 1;
+    for i in 0..n {
+        k[i] /= sum;
     }
 }
 

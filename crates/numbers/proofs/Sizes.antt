@@ -1,51 +1,42 @@
--- The size of a value by its tests against zero, and what is finite by its difference from itself. Assumes nothing.
-use Rattle.std.proofs.Common.{◌≡◌, ℕ, ◌*◌, ◌<◌, Bool, true, false, not, T, ltb, ℤ, pos, sym, refl, ap, ◌∙◌, true≢false, le_refl, mul-pos, ltb-false, le-ltb}
-use native.Mathlib.Nat.{sub_self}
-use lib.Ieee.{Float, nan, inf, fin, binary32, up, down, neg, sum, add, sub, lt, eq, fits}
+-- What the library's methods give is what the definitions of specs/Numbers.antt say: the size, what is finite, the floor, the nearest whole
+-- number, and the pattern of a NaN. Assumes nothing.
+use Rattle.std.proofs.Common.{◌≡◌, ℕ, ◌+◌, ◌-◌, ◌*◌, ◌/◌, true, false, sym, refl, ap, true≢false, arith}
+use Rattle.std.specs.Float.{float_with_sign, float_is_finite, floor, float_round, round_with}
+use lib.Ieee.{Float, nan, inf, fin, binary32, up, down, round, is_nan, to_bits}
 use lib.Ieee.Fits.{down_pos}
 use lib.Ieee.Scale.{finite}
-use borrow.Author.Tests.{not-true}
-use lib.Arith.{le-zero}
-use Rattle.numbers.specs.Numbers.{abs_of}
-use Rattle.floats.proofs.Tests.{below_zero, is_zero, round_zero, zero_is}
+use Rattle.numbers.specs.Numbers.{abs_of, floor_of, nearest_of, round_of}
 
--- ---- the size
+pub abs_is : (x : Float) → float_with_sign false x ≡ abs_of x
+unfolding float_with_sign abs_of
+abs_is nan = refl
+abs_is (inf s) = refl
+abs_is (fin s m e) = refl
 
-pub abs_negative : (x : Float) → lt x (fin false 0 (pos 0)) ≡ true → neg x ≡ abs_of x
-unfolding lt neg abs_of
-abs_negative nan h = absurd (true≢false (sym h))
-abs_negative (inf true) h = refl
-abs_negative (inf false) h = absurd (true≢false (sym h))
-abs_negative (fin true m e) h = refl
-abs_negative (fin false m e) h = absurd (true≢false (sym h ∙ below_zero false m e))
+pub finite_is : (x : Float) → float_is_finite x ≡ finite x
+unfolding float_is_finite
+finite_is nan = refl
+finite_is (inf s) = refl
+finite_is (fin s m e) = refl
 
-pub abs_zero : (x : Float) → T (fits binary32 x) → eq x (fin false 0 (pos 0)) ≡ true → fin false 0 (pos 0) ≡ abs_of x
-unfolding eq abs_of
-abs_zero nan f h = absurd (true≢false (sym h))
-abs_zero (inf s) f h = absurd (true≢false (sym h))
-abs_zero (fin s m e) f h = ap abs_of (zero_is s m e f (le-zero (ltb-false 0 m (not-true (ltb 0 m) (sym (is_zero s m e) ∙ h)))))
+pub floor_is : (x : Float) → floor binary32 x ≡ floor_of x
+unfolding round_with floor_of
+floor_is nan = refl
+floor_is (inf s) = refl
+floor_is (fin false m e) = refl
+floor_is (fin true m e) =
+    let same : m * up e + down e - 1 ≡ m * up e + (down e - 1) = omega (arith, down_pos e) in
+    ap (λ (n : ℕ). round binary32 true (n / down e) 1) same
 
-pub abs_rest : (x : Float) → lt x (fin false 0 (pos 0)) ≡ false → eq x (fin false 0 (pos 0)) ≡ false → x ≡ abs_of x
-unfolding lt eq abs_of
-abs_rest nan h k = refl
-abs_rest (inf true) h k = absurd (true≢false h)
-abs_rest (inf false) h k = refl
-abs_rest (fin false m e) h k = refl
-abs_rest (fin true m e) h k = absurd (true≢false (sym (ap not (sym (below_zero true m e) ∙ h)) ∙ sym (is_zero true m e) ∙ k))
+pub round_is : (x : Float) → float_round binary32 x ≡ round_of x
+unfolding round_with nearest_of round_of
+round_is nan = refl
+round_is (inf s) = refl
+round_is (fin false m e) = refl
+round_is (fin true m e) = refl
 
--- ---- what is finite
-
-same_sum : (s : Bool) (a c : ℕ) → 0 < c → sum binary32 s a (not s) a c ≡ fin false 0 (pos 0)
-unfolding sum
-same_sum true a c C = rw (le-ltb a a (le_refl a), sub_self a) (round_zero false c C)
-same_sum false a c C = rw (le-ltb a a (le_refl a), sub_self a) (round_zero false c C)
-
-minus_itself : (s : Bool) (m : ℕ) (e : ℤ) → sub binary32 (fin s m e) (fin s m e) ≡ fin false 0 (pos 0)
-unfolding sub add neg
-minus_itself s m e = same_sum s (m * up e * down e) (down e * down e) (mul-pos (down_pos e) (down_pos e))
-
-pub finite_test : (x : Float) → eq (sub binary32 x x) (fin false 0 (pos 0)) ≡ finite x
-finite_test nan = unfold eq sub add neg in refl
-finite_test (inf true) = unfold eq sub add neg in refl
-finite_test (inf false) = unfold eq sub add neg in refl
-finite_test (fin s m e) = rw minus_itself (unfold eq in refl)
+pub nan_bits : (x : Float) → is_nan x ≡ true → 0x7fc0_0000 ≡ to_bits binary32 x
+unfolding is_nan to_bits
+nan_bits nan h = refl
+nan_bits (inf s) h = absurd (true≢false (sym h))
+nan_bits (fin s m e) h = absurd (true≢false (sym h))

@@ -13,11 +13,8 @@ fn gray_u8_to_f32(img: &[u8], out: &mut [f32])
     requires { length img.now ≤ length out.old }
     ensures { out.new ≡ put out.old 0 (gray_of img.now) }
 {
-    let n = img.len();
-    let mut i = 0;
-    while i < n {
+    for i in 0..img.len() {
         out[i] = numbers::byte_to_f32(img[i]);
-        i += 1;
     }
 }
 

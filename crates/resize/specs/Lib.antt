@@ -1,2 +1,1 @@
 pub mod Resize
-pub mod Taps

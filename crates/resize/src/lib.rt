@@ -7,13 +7,12 @@ ghost use Rattle.lists.specs.Lists.{tab, put};
 ghost use Rattle.lists.specs.Premises.{InRange};
 ghost use Rattle.floats.specs.F32.{f32};
 ghost use Rattle.resize.specs.Resize.{place_of, tap_of, byte_of, lerp_of, bilinear_of, resize_of};
-ghost use Rattle.resize.specs.Taps.{Taps};
 
-// Two indices of a side, and the weight of the second.
-#[derive(Clone, Copy)]
+// Two indices of a side, and the weight of the second. A side is at most 4,096, so 16 bits hold an index, and the stack a tap for each column.
+#[derive(Clone, Copy, Default)]
 pub struct Tap {
-    pub first: usize,
-    pub next: usize,
+    pub first: u16,
+    pub next: u16,
     pub weight: f32,
 }
 
@@ -31,7 +30,7 @@ fn next(first: usize, src: usize) -> usize
     requires { (first < src) × (src ≤ 4096) }
     ensures { (result ≡ min (first + 1) (src - 1)) × (result < src) }
 {
-    if first + 1 < src { first + 1 } else { src - 1 }
+    (first + 1).min(src - 1)
 }
 
 // The tap of a target place. The cast drops a fraction and gives 0 below zero, which is floor().max(0.0).
@@ -44,47 +43,31 @@ fn tap_at(src: usize, dst: usize, d: usize) -> Tap
     let second = next(first, src);
     let base = numbers::to_f32(first);
     Tap {
-        first: first,
-        next: second,
+        first: first as u16,
+        next: second as u16,
         weight: s - base,
     }
 }
 
 // The taps of all columns, stored: they are the same in each row.
-fn columns(src: usize, dst: usize, firsts: &mut [usize], weights: &mut [f32])
-    requires { (1 ≤ src) × (src ≤ 4096) × (dst ≤ 4096) × (dst ≤ length firsts.old) × (dst ≤ length weights.old) }
-    ensures { Taps src dst firsts.new weights.new }
+fn columns(src: usize, taps: &mut [Tap])
+    requires { (1 ≤ src) × (src ≤ 4096) × (length taps.old ≤ 4096) }
+    ensures { taps.new ≡ tab (length taps.old) (tap_of src (length taps.old)) }
 {
-    let mut x = 0;
-    while x < dst {
-        let t = tap_at(src, dst, x);
-        firsts[x] = t.first;
-        weights[x] = t.weight;
-        x += 1;
-    }
-}
-
-// The tap of column x, from what is stored.
-fn column(src: usize, dst: usize, firsts: &[usize], weights: &[f32], x: usize) -> Tap
-    requires { (1 ≤ src) × (src ≤ 4096) × (dst ≤ 4096) × (x < dst) × Taps src dst firsts.now weights.now }
-    ensures { (result ≡ tap_of src dst x) × (result.first < src) × (result.next < src) }
-{
-    let first = firsts[x];
-    let second = next(first, src);
-    let weight = weights[x];
-    Tap {
-        first: first,
-        next: second,
-        weight: weight,
+    let dst = taps.len();
+    for x in 0..dst {
+        taps[x] = tap_at(src, dst, x);
     }
 }
 
 // The byte in column x of row y.
-fn gray(src: &[u8], w: usize, x: usize, y: usize) -> f32
+fn gray(src: &[u8], w: usize, x: u16, y: u16) -> f32
     requires { (x < w) × («y» * w + w ≤ length src.now) }
     ensures { result ≡ byte_of src.now w x y }
 {
-    numbers::byte_to_f32(src[y * w + x])
+    let row = usize::from(y);
+    let column = usize::from(x);
+    numbers::byte_to_f32(src[row * w + column])
 }
 
 // From a to b, by the weight of b.
@@ -113,51 +96,28 @@ fn sample(src: &[u8], w: usize, tx: Tap, ty: Tap) -> f32
 }
 
 // A row of the target, put at `at`.
-fn resize_row(
-    src: &[u8],
-    src_w: usize,
-    dst_w: usize,
-    firsts: &[usize],
-    weights: &[f32],
-    ty: Tap,
-    out: &mut [f32],
-    at: usize,
-)
-    requires { (1 ≤ src_w) × (src_w ≤ 4096) × (dst_w ≤ 4096) × Taps src_w dst_w firsts.now weights.now
+fn resize_row(src: &[u8], src_w: usize, taps: &[Tap], ty: Tap, out: &mut [f32], at: usize)
+    requires { (1 ≤ src_w) × (src_w ≤ 4096) × (length taps.now ≤ 4096) × (taps.now ≡ tab (length taps.now) (tap_of src_w (length taps.now)))
         × (ty.first * src_w + src_w ≤ length src.now) × (ty.next * src_w + src_w ≤ length src.now)
-        × (at + dst_w ≤ length out.old) }
+        × (at + length taps.now ≤ length out.old) }
     ensures { out.new ≡ put out.old at
-        (tab dst_w (λ x. bilinear_of src.now src_w (tap_of src_w dst_w x) ty)) }
+        (tab (length taps.now) (λ x. bilinear_of src.now src_w (tap_of src_w (length taps.now) x) ty)) }
 {
-    let mut x = 0;
-    while x < dst_w {
-        let tx = column(src_w, dst_w, firsts, weights, x);
-        let v = sample(src, src_w, tx, ty);
-        out[at + x] = v;
-        x += 1;
+    for x in 0..taps.len() {
+        out[at + x] = sample(src, src_w, taps[x], ty);
     }
 }
 
 // All rows, one after another; the tap of a row is worked out once.
-fn resize_rows(
-    src: &[u8],
-    src_w: usize,
-    src_h: usize,
-    dst_w: usize,
-    dst_h: usize,
-    firsts: &[usize],
-    weights: &[f32],
-    out: &mut [f32],
-)
-    requires { InRange src_w src_h × (dst_w ≤ 4096) × (dst_h ≤ 4096) × (src_w * src_h ≤ length src.now)
-        × (dst_w * dst_h ≤ length out.old) × Taps src_w dst_w firsts.now weights.now }
-    ensures { out.new ≡ put out.old 0 (resize_of src.now src_w src_h dst_w dst_h) }
+fn resize_rows(src: &[u8], src_w: usize, src_h: usize, taps: &[Tap], dst_h: usize, out: &mut [f32])
+    requires { InRange src_w src_h × (length taps.now ≤ 4096) × (dst_h ≤ 4096) × (src_w * src_h ≤ length src.now)
+        × (length taps.now * dst_h ≤ length out.old) × (taps.now ≡ tab (length taps.now) (tap_of src_w (length taps.now))) }
+    ensures { out.new ≡ put out.old 0 (resize_of src.now src_w src_h (length taps.now) dst_h) }
 {
-    let mut y = 0;
-    while y < dst_h {
+    let dst_w = taps.len();
+    for y in 0..dst_h {
         let ty = tap_at(src_h, dst_h, y);
-        resize_row(src, src_w, dst_w, firsts, weights, ty, out, y * dst_w);
-        y += 1;
+        resize_row(src, src_w, taps, ty, out, y * dst_w);
     }
 }
 
@@ -174,8 +134,8 @@ pub fn resize_bilinear(
         × (dst_w * dst_h ≤ length out.old) }
     ensures { out.new ≡ put out.old 0 (resize_of src.now src_w src_h dst_w dst_h) }
 {
-    let mut firsts = [0usize; 4096];
-    let mut weights = [0.0f32; 4096];
-    columns(src_w, dst_w, &mut firsts, &mut weights);
-    resize_rows(src, src_w, src_h, dst_w, dst_h, &firsts, &weights, out);
+    let mut store = [Tap::default(); 4096];
+    let taps = &mut store[..dst_w];
+    columns(src_w, taps);
+    resize_rows(src, src_w, src_h, taps, dst_h, out);
 }

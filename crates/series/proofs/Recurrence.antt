@@ -31,9 +31,6 @@ ends Cosine = (lit≤ tt, lit≤ tt, lit≤ tt, lit≤ tt, lit≤ tt)
 ends Sine = (lit≤ tt, lit≤ tt, lit≤ tt, lit≤ tt, lit≤ tt)
 ends Exponential = (lit≤ tt, lit≤ tt, lit≤ tt, lit≤ tt, lit≤ tt)
 
-pub last_pos : (s : Series) → 1 ≤ lowest_of s
-last_pos s = (ends s).0
-
 pub divisor_pos : (s : Series) (k : ℕ) → lowest_of s ≤ k → 1 ≤ divisor_of s k
 divisor_pos s k h = le_trans (ends s).1 (divisor_mono s h)
 

@@ -1,7 +1,7 @@
 -- U = 2 ^ 30 - w with its sign, by its two cases. Assumes nothing.
 use Rattle.std.proofs.Common.{◌≡◌, ℕ, suc, ◌+◌, ◌-◌, ◌^◌, ◌<◌, ◌≤◌, Bool, true, false, cond, ltb, pos, negsuc, ap, ◌∙◌, arith, le-ltb, lt-ltb}
 use lib.IntN.{sub_ℕ}
-use lib.Ieee.{Float, binary32, round}
+use lib.Ieee.{binary32, round}
 use Rattle.series.specs.Series.{over30_of}
 
 signed_by : (w : ℕ) (b : Bool) → ltb (2 ^ 30) w ≡ b → over30_of (sub_ℕ (2 ^ 30) w) ≡ over30_of (cond b (negsuc (w - suc (2 ^ 30))) (pos (2 ^ 30 - w)))

@@ -10,7 +10,7 @@ ghost use Rattle.floats.specs.Units.{units_at};
 ghost use Rattle.series.specs.Recurrence.{u_next, steps_of};
 ghost use Rattle.series.specs.Series.{divisor_of, limit_of, lowest_of, z_of, y_of, squared_of, cos_of, sin_of, exp_neg_of};
 
-// Which of the three recurrences: they differ in their divisors.
+// Which of the three recurrences: they differ in their divisors. By cases, and not by a closure: divisor_of and the bounds are by the same cases.
 #[derive(Clone, Copy)]
 pub enum Series {
     Cosine,
@@ -44,10 +44,8 @@ fn steps(s: Series, z: u64, top: u64, n: u64) -> u64
     ensures { (result ≡ steps_of (divisor_of s) z top n) × (result ≤ 2 ^ 30) }
 {
     let mut u: u64 = 0x4000_0000;
-    let mut i: u64 = 0;
-    while i < n {
+    for i in 0..n {
         u = step(z, divisor(s, top - i), u);
-        i += 1;
     }
     u
 }

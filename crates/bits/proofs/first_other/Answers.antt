@@ -20,12 +20,6 @@ on ws b i e at to h p q k l m n = by (lt_or_le k at)
         let z : at + (k - at) ≡ k = omega arith in
         subst (λ (j : ℕ). bit_at ws j ≡ b) z (q (k - at) (omega arith))
 
-pub loop-at-init : goal.loop-at-init
-loop-at-init c = (omega arith, omega arith, λ k l m n. absurd (omega arith))
-
-pub lowest-requires : goal.lowest-requires
-lowest-requires c = omega (arith, c.if-left-ne0.true)
-
 pub returns-then-left-ne0 : goal.returns-then-left-ne0
 returns-then-left-ne0 c =
     let few : c.seen.result < 2 ^ 64 =
@@ -39,7 +33,7 @@ returns-then-left-ne0 c =
     let inside = found_in ws a.marked l.at v few c.seen.ensures r o.2 o.1 in
     let same = on ws (pick a.marked 1 0) a.i a.e l.at (l.at + r) l.invariant.0 l.invariant.2
     (λ s h. found_same ws a.marked l.at v few c.seen.ensures r o.2 o.1 s (omega arith)) in
-    rw c.least.ensures
+    rw c.min.ensures
     (record {
       low = omega arith;
       high = omega arith;
@@ -48,9 +42,6 @@ returns-then-left-ne0 c =
           let e : min (l.at + r) a.e ≡ l.at + r = omega arith in
           rw e (found_other ws a.marked l.at v few c.seen.ensures r o.2 o.1);
     })
-
-pub loop-at-smaller : goal.loop-at-smaller
-loop-at-smaller c = omega arith
 
 pub loop-at-preserved : goal.loop-at-preserved
 loop-at-preserved c =
@@ -64,14 +55,3 @@ loop-at-preserved c =
       on ws (pick a.marked 1 0) a.i a.e l.at _ l.invariant.0 l.invariant.2
           (λ s h. none_left ws a.marked l.at c.seen.result few c.seen.ensures c.if-left-ne0.false s (omega arith)),
     )
-
-pub returns : goal.returns
-returns c =
-    let l = c.loop-at in
-    let a = c.args in
-    record {
-      low = c.requires.0;
-      high = omega arith;
-      same = λ k h m. l.invariant.2 k h (omega arith) m;
-      other = λ h. absurd (omega arith);
-    }

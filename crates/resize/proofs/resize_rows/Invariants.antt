@@ -1,13 +1,8 @@
 -- `resize::resize_rows` puts row after row at the front of `out`. Assumes nothing.
 use mathlib.Core.Path.{◌≡◌}
-use Prim.Native.Nat.{◌-◌, ◌≤◌}
-use lib.ListN.{length}
 use Rattle.lists.specs.Lists.{grid, put}
 use Rattle.resize.specs.Resize.{tap_of, bilinear_of}
 use Rattle.resize.proofs.resize_rows.Given as goal
 
 abbrev pub invariant-loop-y : goal.invariant-loop-y
-invariant-loop-y l = (l.y ≤ l.dst_h) × (length l.out ≡ length l.initial.out) × (l.out ≡ put l.initial.out 0 (grid l.dst_w l.y (λ x z. bilinear_of l.src l.src_w (tap_of l.src_w l.dst_w x) (tap_of l.src_h l.dst_h z))))
-
-abbrev pub decreases-loop-y : goal.decreases-loop-y
-decreases-loop-y l = l.dst_h - l.y
+invariant-loop-y l = l.out ≡ put l.initial.out 0 (grid l.dst_w l.y (λ x z. bilinear_of l.src l.src_w (tap_of l.src_w l.dst_w x) (tap_of l.src_h l.dst_h z)))

@@ -1,5 +1,5 @@
 -- `series::cos` meets its contract. Assumes nothing.
-use Rattle.std.proofs.Common.{◌≡◌, ℕ, ◌-◌, ◌*◌, ◌/◌, ◌^◌, ◌<◌, ◌≤◌, sym, ap, ◌∙◌, lt_of_le_of_lt, mul-le-mul, arith, lit<}
+use Rattle.std.proofs.Common.{◌≡◌, ℕ, ◌-◌, ◌*◌, ◌/◌, ◌^◌, sym, ap, ◌∙◌}
 use lib.IntN.{sub_ℕ}
 use lib.Ieee.{Float, binary32, neg}
 use Rattle.floats.proofs.Within.{round_neg}
@@ -14,18 +14,6 @@ cos_is : (theta : Float) (z u : ℕ) → z ≡ z_of theta → u ≡ steps_of (di
 unfolding cos_of
 cos_is theta z u h k =
     ap (λ (v : ℕ). over30_of (sub_ℕ (2 ^ 30) (z * v / 2147483648))) k ∙ ap (λ (y : ℕ). over30_of (sub_ℕ (2 ^ 30) (y * steps_of (divisor_of Cosine) y 8 7 / 2147483648))) h
-
-pub overflow_mul-w : goal.overflow_mul-w
-overflow_mul-w c =
-    let product : c.z_of-z.result * c.steps.result ≤ 2 ^ 62 =
-    mul-le-mul c.z_of-z.ensures.1 c.steps.ensures.1 in
-    record { fits = lt_of_le_of_lt product (lit< tt) }
-
-pub overflow_cast-w-else-w-le1073741824 : goal.overflow_cast-w-else-w-le1073741824
-overflow_cast-w-else-w-le1073741824 c =
-    let product : c.z_of-z.result * c.steps.result ≤ 2 ^ 62 =
-    mul-le-mul c.z_of-z.ensures.1 c.steps.ensures.1 in
-    omega (arith, product)
 
 pub returns-then-w-le1073741824 : goal.returns-then-w-le1073741824
 returns-then-w-le1073741824 c =

@@ -1,16 +1,10 @@
 -- `series::square_of` meets its contract. Assumes nothing.
-use Rattle.std.proofs.Common.{ℕ, ◌+◌, ◌%◌, ◌^◌, ◌≤◌, sym, subst, lt_of_le_of_lt, mul-le-mul, arith, lit<, lit≤}
+use Rattle.std.proofs.Common.{ℕ, ◌^◌, ◌≤◌, sym, subst, lit≤}
 use Rattle.series.proofs.Square.{square_none, square_normal, square_le}
 use Rattle.series.proofs.square_of.Goals as goal
 
-few : (b : ℕ) → 8388608 + b % 8388608 ≤ 2 ^ 24
-few b = omega arith
-
 pub returns-then-e-lt104 : goal.returns-then-e-lt104
 returns-then-e-lt104 c = (sym (square_none c.args.b c.if-e-lt104.true), lit≤ tt)
-
-pub overflow_mul-result : goal.overflow_mul-result
-overflow_mul-result c = record { fits = lt_of_le_of_lt (mul-le-mul (few c.args.b) (few c.args.b)) (lit< tt) }
 
 pub returns : goal.returns
 returns c =

@@ -1,11 +1,8 @@
--- `series::steps` meets its contract. The loop's invariant: u is what the first i steps give. The measure is what is left of n. Assumes nothing.
-use Rattle.std.proofs.Common.{◌≡◌, ◌-◌, ◌≤◌}
+-- `series::steps` meets its contract. The loop's invariant: u is what the first i steps give. Assumes nothing.
+use Rattle.std.proofs.Common.{◌≡◌}
 use Rattle.series.specs.Recurrence.{steps_of}
 use Rattle.series.specs.Series.{divisor_of}
 use Rattle.series.proofs.steps.Given as goal
 
 abbrev pub invariant-loop-i : goal.invariant-loop-i
-invariant-loop-i l = (l.i ≤ l.n) × (l.u ≡ steps_of (divisor_of l.s) l.z l.top l.i)
-
-abbrev pub decreases-loop-i : goal.decreases-loop-i
-decreases-loop-i l = l.n - l.i
+invariant-loop-i l = l.u ≡ steps_of (divisor_of l.s) l.z l.top l.i
