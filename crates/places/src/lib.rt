@@ -9,7 +9,7 @@ ghost use Rattle.std.specs.Prelude.{◌≡◌, ◌+◌, ◌*◌, ◌≤◌, ◌<
 ghost use Rattle.std.specs.Float.{binary32};
 ghost use Rattle.std.specs.Float.Ieee.{in_signed, to_signed, to_unsigned};
 ghost use Rattle.lists.specs.Marked.{pick};
-ghost use Rattle.lists.specs.Premises.{InRange, Scratch};
+ghost use Rattle.lists.specs.Premises.{InRange};
 ghost use Rattle.floats.specs.F32.{0f};
 ghost use Rattle.places.specs.Point.{sx_of, sy_of, inside};
 ghost use Rattle.places.specs.Places.{PlaceOf, PlacesOf};
@@ -86,12 +86,17 @@ fn place_of(map: pose::Map, w: usize, h: usize, x: usize, y: usize) -> Place
     }
 }
 
+// Room for what is worked out of a piece of a row, at most 256 pixels: a place, two weights and a flag for each.
+pub struct Scratch {
+    pub spots: [u32; 256],
+    pub across: [f32; 256],
+    pub down: [f32; 256],
+    pub flags: [u32; 256],
+}
+
 // Places, weights and flags of the `len` pixels from x on of the row y.
 pub fn places_row(
-    spots: &mut [u32],
-    across: &mut [f32],
-    down: &mut [f32],
-    flags: &mut [u32],
+    scratch: &mut Scratch,
     map: pose::Map,
     w: usize,
     h: usize,
@@ -99,16 +104,14 @@ pub fn places_row(
     y: usize,
     len: usize,
 )
-    requires { (w ≤ 4096) × (y < h) × (h ≤ 4096) × (x + len ≤ w) × Scratch len spots.old across.old down.old flags.old }
-    ensures { PlacesOf map w h x y len spots.new across.new down.new flags.new }
+    requires { (w ≤ 4096) × (y < h) × (h ≤ 4096) × (x + len ≤ w) × (len ≤ 256) }
+    ensures { let s = scratch.new in PlacesOf map w h x y len s.spots s.across s.down s.flags }
 {
-    let mut k = 0;
-    while k < len {
+    for k in 0..len {
         let p = place_of(map, w, h, x + k, y);
-        spots[k] = p.at;
-        across[k] = p.across;
-        down[k] = p.down;
-        flags[k] = p.flag;
-        k += 1;
+        scratch.spots[k] = p.at;
+        scratch.across[k] = p.across;
+        scratch.down[k] = p.down;
+        scratch.flags[k] = p.flag;
     }
 }
