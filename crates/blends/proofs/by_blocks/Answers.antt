@@ -16,7 +16,7 @@ breaks-requires c =
     let turn : (c.loop-x.x < c.least-end.result) × (c.least-end.result ≤ c.args.to) =
     let l = c.loop-x in (omega (arith, c.least-end.ensures), omega (arith, c.least-end.ensures)) in
     let reach : (x : ℕ) → c.loop-x.x ≤ x → x < c.least-end.result →
-    let a = c.args in get_or a.spots.now x 0 + a.w + 1 < a.n =
+    let a = c.args in get_or a.scratch.now.spots x 0 + a.w + 1 < a.n =
     λ x p q. c.requires.1.6 x (omega (arith, c.loop-x.invariant.low)) (omega (arith, turn.1)) in
     let t = turn in
     (t.0, omega arith, omega arith, λ x p q. omega (arith, reach x p q))
@@ -26,7 +26,7 @@ by_run-requires c =
     let turn : (c.loop-x.x < c.least-end.result) × (c.least-end.result ≤ c.args.to) =
     let l = c.loop-x in (omega (arith, c.least-end.ensures), omega (arith, c.least-end.ensures)) in
     let reach : (x : ℕ) → c.loop-x.x ≤ x → x < c.least-end.result →
-    let a = c.args in get_or a.spots.now x 0 + a.w + 1 < a.n =
+    let a = c.args in get_or a.scratch.now.spots x 0 + a.w + 1 < a.n =
     λ x p q. c.requires.1.6 x (omega (arith, c.loop-x.invariant.low)) (omega (arith, turn.1)) in
     let t = turn in
     let l = c.loop-x in
@@ -37,7 +37,7 @@ by_place-requires c =
     let turn : (c.loop-x.x < c.least-end.result) × (c.least-end.result ≤ c.args.to) =
     let l = c.loop-x in (omega (arith, c.least-end.ensures), omega (arith, c.least-end.ensures)) in
     let reach : (x : ℕ) → c.loop-x.x ≤ x → x < c.least-end.result →
-    let a = c.args in get_or a.spots.now x 0 + a.w + 1 < a.n =
+    let a = c.args in get_or a.scratch.now.spots x 0 + a.w + 1 < a.n =
     λ x p q. c.requires.1.6 x (omega (arith, c.loop-x.invariant.low)) (omega (arith, turn.1)) in
     let t = turn in
     let l = c.loop-x in
@@ -56,7 +56,7 @@ loop-x-preserved-then-breaks-eq0 c =
     let l = c.loop-x in
     let t = turn in
     let a = c.args in
-    taken_block a.n a.w a.at a.from a.to a.spots.now a.across.now a.down.now a.part.now (omega arith) l.part _ l.x c.least-end.result (omega arith) t.1 l.invariant c.by_run.ensures
+    taken_block a.n a.w a.at a.from a.to a.scratch.now.spots a.scratch.now.across a.scratch.now.down a.part.now (omega arith) l.part _ l.x c.least-end.result (omega arith) t.1 l.invariant c.by_run.ensures
 
 pub loop-x-smaller : goal.loop-x-smaller
 loop-x-smaller c =
@@ -71,7 +71,7 @@ loop-x-preserved c =
     let l = c.loop-x in
     let t = turn in
     let a = c.args in
-    taken_block a.n a.w a.at a.from a.to a.spots.now a.across.now a.down.now a.part.now (omega arith) l.part _ l.x c.least-end.result (omega arith) t.1 l.invariant c.by_place.ensures
+    taken_block a.n a.w a.at a.from a.to a.scratch.now.spots a.scratch.now.across a.scratch.now.down a.part.now (omega arith) l.part _ l.x c.least-end.result (omega arith) t.1 l.invariant c.by_place.ensures
 
 pub returns : goal.returns
 returns c =
