@@ -49,7 +49,7 @@ fn by_place(
     from: usize,
     to: usize,
 )
-    requires { Placed n w at from to scratch.now.spots scratch.now.across scratch.now.down part.old }
+    requires { Placed n w at from to scratch.now.spots part.old }
     ensures { Taken n w at from to scratch.now.spots scratch.now.across scratch.now.down part.old part.new }
 {
     let first = 3 * n + at;
@@ -108,7 +108,7 @@ fn by_run(
     from: usize,
     to: usize,
 )
-    requires { (from < to) × (breaks_of scratch.now.spots from (to - from - 1) ≡ 0) × Placed n w at from to scratch.now.spots scratch.now.across scratch.now.down part.old }
+    requires { (from < to) × (breaks_of scratch.now.spots from (to - from - 1) ≡ 0) × Placed n w at from to scratch.now.spots part.old }
     ensures { Taken n w at from to scratch.now.spots scratch.now.across scratch.now.down part.old part.new }
 {
     let len = to - from;
@@ -128,12 +128,12 @@ fn by_blocks(
     from: usize,
     to: usize,
 )
-    requires { (n ≤ 16777216) × Placed n w at from to scratch.now.spots scratch.now.across scratch.now.down part.old }
+    requires { (n ≤ 16777216) × Placed n w at from to scratch.now.spots part.old }
     ensures { Taken n w at from to scratch.now.spots scratch.now.across scratch.now.down part.old part.new }
 {
     let mut x = from;
     while x < to {
-        let end = numbers::least(x + 16, to);
+        let end = to.min(x + 16);
         if breaks(&scratch.spots, x, end) == 0 {
             by_run(part, scratch, w, n, at, x, end);
         } else {
@@ -153,7 +153,7 @@ pub fn reads_stretch(
     from: usize,
     to: usize,
 )
-    requires { (n ≤ 16777216) × Placed n w at from to scratch.now.spots scratch.now.across scratch.now.down part.old }
+    requires { (n ≤ 16777216) × Placed n w at from to scratch.now.spots part.old }
     ensures { Taken n w at from to scratch.now.spots scratch.now.across scratch.now.down part.old part.new }
 {
     if from < to {

@@ -87,6 +87,7 @@ fn place_of(map: pose::Map, w: usize, h: usize, x: usize, y: usize) -> Place
 }
 
 // Room for what is worked out of a piece of a row, at most 256 pixels: a place, two weights and a flag for each.
+#[derive(Drop)]
 pub struct Scratch {
     pub spots: [u32; 256],
     pub across: [f32; 256],

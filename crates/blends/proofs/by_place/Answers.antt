@@ -14,7 +14,7 @@ loop-x-init c =
 pub mix-p-requires : goal.mix-p-requires
 mix-p-requires c =
     let l = c.loop-x in
-    (omega (arith, l.invariant.part_length), omega (arith, c.requires.6 l.x l.invariant.low (omega arith)))
+    (omega (arith, l.invariant.part_length), omega (arith, c.requires.4 l.x l.invariant.low (omega arith)))
 
 pub bounds-part-second : goal.bounds-part-second
 bounds-part-second c = simp length-set (omega arith)
