@@ -5,12 +5,12 @@
 // the compiler takes several pixels at a time. Elsewhere each pixel is read by its own place.
 #![tactic(auto)]
 
-use places::Scratch;
-
 ghost use Rattle.std.specs.Prelude.{◌≡◌, ℕ, ◌+◌, ◌-◌, ◌*◌, ◌≤◌, ◌<◌, length, get_or};
 ghost use Rattle.std.specs.Float.{nan};
 ghost use Rattle.lists.specs.Lists.{tab, put};
 ghost use Rattle.blends.specs.Reads.{four_at, ThreeOf, breaks_of, Placed, Taken};
+
+use places::Scratch;
 
 // A pixel of the three warped images.
 #[derive(Clone, Copy)]

@@ -1,9 +1,9 @@
 -- What is below what, told by the sign of a difference; the points of a map with small entries are finite. Assumes nothing.
 use mathlib.Core.Path.{◌≡◌, refl, sym, ap, ◌∙◌, subst}
-use mathlib.Core.Bool.{Bool, true, false, not, ◌&&◌, ◌||◌, cond, true≢false}
-use mathlib.Core.Logic.{◌⊎◌, inl, inr}
+use mathlib.Core.Bool.{Bool, true, false, not, ◌&&◌, cond, true≢false}
+use mathlib.Core.Logic.{inl, inr}
 use Prim.Native.Nat.{ℕ, zero, suc, ◌+◌, ◌-◌, ◌*◌, ◌/◌, ◌%◌, ◌^◌, ◌≤◌, ◌<◌}
-use native.Mathlib.Nat.{zero-mul, mul-one, zero-add, mul-pos, lt_of_lt_of_le, lt_irrefl, le-add_right, mul_comm}
+use native.Mathlib.Nat.{zero-mul, mul-one, zero-add, mul-pos, lt_of_lt_of_le, lt_irrefl, le-add_right}
 use native.Mathlib.Omega.{arith}
 use borrow.Author.Tests.{lt-ltb, le-ltb}
 use lib.Dec.{T, ltb, leb, eqb, eqb-zero-suc, lit<, lit≤}
@@ -13,7 +13,7 @@ use lib.Ieee.Fits.{down_pos, up_pos, add-fits, of_int-fits}
 use lib.Ieee.Bits.{of_bits-fits}
 use lib.Ieee.Exact.{HasValue}
 use lib.Ieee.Scale.{finite}
-use Rattle.floats.specs.Bound.{Within, UpTo, AtLeast, Rep}
+use Rattle.floats.specs.Bound.{Within, UpTo, AtLeast}
 use Rattle.floats.specs.F32.{◌⊕◌, ◌⊖◌, ◌⊗◌, f32, 0f}
 use Rattle.floats.proofs.Within.{Signed, round_signed, round_within, within_finite, within_more, mul_within, add_within, rep_down, rep_up, rep_pow}
 use Rattle.floats.proofs.Exactly.{whole_is, value_unique, value_over, value_within}

@@ -77,11 +77,11 @@ fn is_inside<const FINITE: bool>(w: usize, h: usize, sx: f32, sy: f32) -> bool
         & is_below::<FINITE>(sy, low)
 }
 
-// The coordinate, or 0 where the point is not inside.
-fn or_zero(within: bool, s: f32) -> f32
-    ensures { result ≡ pick within s 0f }
+// The number where it holds, else 0.
+fn or_zero(holds: bool, s: f32) -> f32
+    ensures { result ≡ pick holds s 0f }
 {
-    if within { s } else { 0.0 }
+    if holds { s } else { 0.0 }
 }
 
 // The floor of an x from 0 to 2^22: 2^23 is added and taken off, where no f32 has a fraction; 1 less where that is too much.
@@ -117,10 +117,10 @@ fn place_of<const FINITE: bool>(map: pose::Map, w: usize, h: usize, x: usize, y:
     let at = index(y0 * exactly(w) + x0);
     let flag = bits::flag(within, y * w + x);
     Place {
-        at: at,
+        at,
         across: tx - x0,
         down: ty - y0,
-        flag: flag,
+        flag,
     }
 }
 

@@ -7,8 +7,6 @@
 // small, so that the warp holds it itself.
 #![tactic(auto)]
 
-use places::Scratch;
-
 ghost use Rattle.std.specs.Prelude.{◌≡◌, ℕ, ◌+◌, ◌-◌, ◌*◌, ◌≤◌, ◌<◌, length, get_or};
 ghost use Rattle.lists.specs.Premises.{InRange};
 ghost use Rattle.lists.specs.Marked.{words_for};
@@ -17,6 +15,8 @@ ghost use Rattle.bits.specs.Words.{unpacked_of};
 ghost use Rattle.warp.specs.Warp.{Warped};
 ghost use Rattle.blends.specs.Reads.{three_rows};
 ghost use Rattle.warp.specs.Rows.{read_of, Reach, Holding, WarpedThrough};
+
+use places::Scratch;
 
 // What the warp has marked: how many pixels, and the first and the last row that hold one.
 #[derive(Clone, Copy)]

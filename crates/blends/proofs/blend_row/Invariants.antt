@@ -1,5 +1,5 @@
 -- `blends::blend_row` meets its contract. The loop's invariant: the first x pixels stand, and nothing else has changed. Assumes nothing.
-use Prim.Native.Nat.{◌-◌, ◌≤◌}
+use Prim.Native.Nat.{◌≤◌}
 use mathlib.Core.Path.{◌≡◌}
 use lib.ListN.{length}
 use Rattle.lists.specs.Lists.{tab, put}

@@ -1,8 +1,7 @@
 -- `blends::by_blocks` meets its contract: a turn reads some more pixels of the stretch, in one of two ways. Assumes nothing.
-use Prim.Native.Nat.{ℕ, ◌+◌, ◌-◌, ◌≤◌, ◌<◌}
+use Prim.Native.Nat.{◌+◌}
 use mathlib.Core.Path.{sym, ◌∙◌}
 use native.Mathlib.Omega.{arith}
-use lib.ListN.{get_or}
 use Rattle.blends.proofs.Stretch.{stretch_start, stretch_end, taken_block}
 use Rattle.blends.proofs.by_blocks.Goals as goal
 

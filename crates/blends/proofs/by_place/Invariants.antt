@@ -1,5 +1,5 @@
 -- `blends::by_place` meets its contract. Assumes nothing.
-use Prim.Native.Nat.{◌+◌, ◌-◌}
+use Prim.Native.Nat.{◌+◌}
 use Rattle.blends.proofs.Stretch.{StretchHeld, taken}
 use Rattle.blends.proofs.by_place.Given as goal
 

@@ -1,5 +1,5 @@
 -- `places::floor_small` meets its contract: 2 ^ 23 added and taken off leaves the floor or the next, and the test tells which. Assumes nothing.
-use mathlib.Core.Path.{sym, ap, ap₂, ◌∙◌, subst}
+use mathlib.Core.Path.{sym, ap, ◌∙◌, subst}
 use mathlib.Core.Bool.{Bool}
 use lib.Dec.{T}
 use lib.Ieee.{Float}

@@ -7,9 +7,7 @@ use native.Mathlib.Omega.{arith}
 use lib.Dec.{T}
 use lib.IntN.{pos}
 use lib.Ieee.{Float, binary32, in_signed, to_signed, to_unsigned}
-use lib.Ieee.Scale.{finite}
 use Rattle.lists.specs.Marked.{pick}
-use Rattle.floats.specs.Bound.{UpTo}
 use Rattle.floats.specs.F32.{◌⊕◌, ◌⊖◌, ◌⊗◌, f32, 0f}
 use Rattle.numbers.proofs.Small.{Below}
 use Rattle.bits.specs.Packing.{flag_of}

@@ -1,5 +1,4 @@
 -- `warp::clear_stretch` meets its contract. Assumes nothing.
-use Prim.Native.Nat.{◌-◌}
 use Rattle.floats.specs.F32.{0f}
 use Rattle.blends.proofs.Stretch.{StretchHeld}
 use Rattle.warp.proofs.clear_stretch.Given as goal

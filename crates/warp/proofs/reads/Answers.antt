@@ -1,5 +1,5 @@
 -- `warp::reads` meets its contract: a stretch at a turn. Assumes nothing.
-use Prim.Native.Nat.{◌+◌, ◌-◌}
+use Prim.Native.Nat.{◌+◌}
 use native.Mathlib.Omega.{arith}
 use Rattle.bits.proofs.Stretches.{stretch_full, stretch_further}
 use Rattle.warp.proofs.Rows.{reads_start, reads_turn, reads_end}

@@ -1,5 +1,5 @@
 -- `warp::warp_three_inverse_map` meets its contract: a row at a turn. Assumes nothing.
-use Prim.Native.Nat.{ℕ, ◌-◌, ◌*◌, ◌+◌, ◌<◌}
+use Prim.Native.Nat.{ℕ, ◌*◌, ◌+◌, ◌<◌}
 use mathlib.Core.Path.{◌≡◌, refl, sym, ap, ◌∙◌}
 use native.Mathlib.Nat.{mul-le-mul, mul_comm, zero-mul, zero-add}
 use native.Mathlib.Omega.{arith}

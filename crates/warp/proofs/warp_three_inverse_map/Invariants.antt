@@ -1,5 +1,5 @@
 -- `warp::warp_three_inverse_map` meets its contract: a row at a turn. Assumes nothing.
-use Prim.Native.Nat.{◌-◌, ◌*◌, ◌≤◌}
+use Prim.Native.Nat.{◌*◌}
 use mathlib.Core.Path.{◌≡◌}
 use lib.ListN.{length}
 use Rattle.warp.specs.Rows.{WarpedThrough}
