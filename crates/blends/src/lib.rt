@@ -131,10 +131,12 @@ fn by_blocks(
     requires { (n ≤ 16777216) × Placed n w at from to scratch.now.spots part.old }
     ensures { Taken n w at from to scratch.now.spots scratch.now.across scratch.now.down part.old part.new }
 {
+    // By hand: the last block may be shorter, and a range by steps of 16 is left in two places, each to be proved.
     let mut x = from;
     while x < to {
         let end = to.min(x + 16);
-        if breaks(&scratch.spots, x, end) == 0 {
+        let broken = breaks(&scratch.spots, x, end);
+        if broken == 0 {
             by_run(part, scratch, w, n, at, x, end);
         } else {
             by_place(part, scratch, w, n, at, x, end);

@@ -56,6 +56,7 @@ fn reads(
         (read_of n w at (unpacked_of marks.now n) scratch.now.spots scratch.now.across scratch.now.down part.old)
         part.old }
 {
+    // By hand: how far a turn goes is found in it.
     let mut x = 0;
     while x < len {
         let r = bits::next_stretch(marks, at + x, at + len);
@@ -101,6 +102,7 @@ fn warp_row(
         × Holding map w h (y * w) marks.old }
     ensures { WarpedThrough map w h (y * w) w part.old marks.old part.new marks.new }
 {
+    // By hand: the last piece may be shorter, and a range by steps of 256 is left in two places, each to be proved.
     let mut x = 0;
     while x < w {
         let len = (w - x).min(256);

@@ -10,14 +10,14 @@ loop-x-init c =
     let a = c.args in
     stretch_start a.n (a.at + a.from) a.from a.to _ a.part.now (omega arith)
 
-pub breaks-requires : goal.breaks-requires
-breaks-requires c = (omega arith, omega arith, omega arith, λ x p q. omega (arith, c.requires.1.4 x (omega (arith, c.loop-x.invariant.low)) (omega arith)))
+pub breaks-broken-requires : goal.breaks-broken-requires
+breaks-broken-requires c = (omega arith, omega arith, omega arith, λ x p q. omega (arith, c.requires.1.4 x (omega (arith, c.loop-x.invariant.low)) (omega arith)))
 
 pub by_run-requires : goal.by_run-requires
 by_run-requires c =
     let i = c.loop-x.invariant in (
       omega arith,
-      sym c.breaks.ensures ∙ c.if-breaks-eq0.true,
+      sym c.breaks-broken.ensures ∙ c.if-broken-eq0.true,
       (omega arith, omega arith, omega (arith, i.part_length), omega arith, λ x p q. c.requires.1.4 x (omega (arith, i.low)) (omega arith)),
     )
 
@@ -26,8 +26,8 @@ by_place-requires c =
     let i = c.loop-x.invariant in
     (omega arith, omega arith, omega (arith, i.part_length), omega arith, λ x p q. c.requires.1.4 x (omega (arith, i.low)) (omega arith))
 
-pub loop-x-preserved-then-breaks-eq0 : goal.loop-x-preserved-then-breaks-eq0
-loop-x-preserved-then-breaks-eq0 c =
+pub loop-x-preserved-then-broken-eq0 : goal.loop-x-preserved-then-broken-eq0
+loop-x-preserved-then-broken-eq0 c =
     let l = c.loop-x in
     let a = c.args in
     let s = a.scratch.now in
