@@ -17,8 +17,3 @@ loop-x-preserved c =
       simp length-set l.invariant.1,
       row_more a.part.now a.scratch.now.across a.scratch.now.down a.w a.i a.from a.len a.to (omega arith) l.x (omega arith) l.part l.invariant.2 c.blend.result c.blend.ensures,
     )
-
-pub returns : goal.returns
-returns c =
-    let e : c.loop-x.x ≡ c.args.len = omega arith in
-    rw e at c.loop-x.invariant.2

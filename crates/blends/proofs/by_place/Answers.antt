@@ -16,12 +16,6 @@ mix-p-requires c =
     let l = c.loop-x in
     (omega (arith, l.invariant.part_length), omega (arith, c.requires.4 l.x l.invariant.low (omega arith)))
 
-pub bounds-part-second : goal.bounds-part-second
-bounds-part-second c = simp length-set (omega arith)
-
-pub bounds-part-third : goal.bounds-part-third
-bounds-part-third c = simp length-set (omega arith)
-
 pub loop-x-preserved : goal.loop-x-preserved
 loop-x-preserved c =
     let l = c.loop-x in

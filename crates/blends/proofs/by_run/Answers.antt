@@ -24,23 +24,11 @@ blend_row-requires c =
     let r = c.requires in
     (omega (arith, inside a.scratch.now.spots a.from a.to a.n a.w r.0 r.1 r.2.4), omega arith, omega arith)
 
-pub overflow_add-n-3 : goal.overflow_add-n-3
-overflow_add-n-3 c =
-    let a = c.args in
-    let r = c.requires in
-    record { fits = omega (arith, inside a.scratch.now.spots a.from a.to a.n a.w r.0 r.1 r.2.4) }
-
 pub blend_row-requires-2 : goal.blend_row-requires-2
 blend_row-requires-2 c =
     let a = c.args in
     let r = c.requires in
     (omega (arith, inside a.scratch.now.spots a.from a.to a.n a.w r.0 r.1 r.2.4), omega (arith, c.blend_row.auto.part), omega arith)
-
-pub overflow_add-n-6 : goal.overflow_add-n-6
-overflow_add-n-6 c =
-    let a = c.args in
-    let r = c.requires in
-    record { fits = omega (arith, inside a.scratch.now.spots a.from a.to a.n a.w r.0 r.1 r.2.4) }
 
 pub blend_row-requires-3 : goal.blend_row-requires-3
 blend_row-requires-3 c =

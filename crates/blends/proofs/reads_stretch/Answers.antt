@@ -7,11 +7,6 @@ use Rattle.blends.proofs.Beside.{three_none}
 use Rattle.blends.proofs.Stretch.{taken}
 use Rattle.blends.proofs.reads_stretch.Goals as goal
 
-pub breaks-requires : goal.breaks-requires
-breaks-requires c =
-    let f = c.requires in
-    (omega arith, omega arith, omega arith, λ x p q. omega (arith, f.1.4 x p q))
-
 pub returns-else-from-to : goal.returns-else-from-to
 returns-else-from-to c =
     let a = c.args in

@@ -4,17 +4,8 @@ use native.Mathlib.Omega.{arith}
 use Rattle.places.proofs.Places.{places_start, places_turn}
 use Rattle.places.proofs.fill_row.Goals as goal
 
-pub loop-k-init : goal.loop-k-init
-loop-k-init g c = let a = c.args in places_start a.map a.w a.h a.x a.y a.scratch.now (omega arith, omega arith, omega arith, omega arith)
-
 pub loop-k-preserved : goal.loop-k-preserved
 loop-k-preserved g c =
     let l = c.loop-k in
     let a = c.args in
     places_turn a.map a.w a.h a.x a.y l.scratch l.k c.place_of-p.result (omega arith) l.invariant c.place_of-p.ensures
-
-pub returns : goal.returns
-returns g c =
-    let l = c.loop-k in
-    let e : l.k ≡ c.args.len = omega arith in
-    rw e at l.invariant.so_far

@@ -81,12 +81,6 @@ index-at-requires g c =
     let p = spot a.map a.w a.h a.x a.y (omega arith) (omega arith) _ _ _ _ _ c.point_x-sx.ensures c.point_y-sy.ensures c.is_inside-within.ensures c.or_zero-tx.ensures c.or_zero-ty.ensures _ _ _ c.floor_small-x0.ensures c.floor_small-y0.ensures c.exactly.ensures in
     (p.0, p.1)
 
-pub overflow_mul-y : goal.overflow_mul-y
-overflow_mul-y g c = let p = c.requires in omega (arith, mul-le-mul (le_of_lt_of_le p.2 p.3) p.1)
-
-pub overflow_add-y : goal.overflow_add-y
-overflow_add-y g c = let p = c.requires in omega (arith, mul-le-mul (le_of_lt_of_le p.2 p.3) p.1)
-
 pub returns : goal.returns
 unfolding index_of
 returns g c =

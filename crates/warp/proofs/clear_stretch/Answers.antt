@@ -11,12 +11,6 @@ loop-x-init c =
     let a = c.args in
     stretch_start a.n a.from a.from a.to (λ _ _. 0f) a.part.now (omega arith)
 
-pub bounds-part-second : goal.bounds-part-second
-bounds-part-second c = simp length-set (omega arith)
-
-pub bounds-part-third : goal.bounds-part-third
-bounds-part-third c = simp length-set (omega arith)
-
 pub loop-x-preserved : goal.loop-x-preserved
 loop-x-preserved c =
     let l = c.loop-x in

@@ -27,9 +27,6 @@ warp_piece-requires c =
       onward_holding a.map a.w a.h (a.y * a.w) l.x 0 (omega (arith, room, i.1)) a.part.now a.marks.now (c.requires.2, c.requires.3) l.part l.marks i.0,
     )
 
-pub loop-x-smaller : goal.loop-x-smaller
-loop-x-smaller c = omega (arith, c.min-len.ensures)
-
 pub loop-x-preserved : goal.loop-x-preserved
 loop-x-preserved c =
     let l = c.loop-x in
@@ -43,10 +40,3 @@ loop-x-preserved c =
       k.part ∙ i.2,
       k.marks ∙ i.3,
     )
-
-pub returns : goal.returns
-returns c =
-    let l = c.loop-x in
-    let a = c.args in
-    let e : l.x ≡ a.w = omega (arith, l.invariant.1) in
-    rw e at l.invariant.0

@@ -49,21 +49,10 @@ loop-y-preserved c =
       k.marks ∙ i.2,
     )
 
-pub marked_rows-rows-requires : goal.marked_rows-rows-requires
-marked_rows-rows-requires c =
-    let l = c.loop-y in
-    (c.requires.0, omega (arith, l.invariant.2, c.fill_words.auto.words, c.requires.2))
-
 pub count-count-requires : goal.count-count-requires
 count-count-requires c =
     let l = c.loop-y in
     (omega (arith, l.invariant.2, c.fill_words.auto.words, c.requires.2), omega (arith, mul-le-mul c.requires.0.w_most c.requires.0.h_most))
-
-pub shape_of-part : goal.shape_of-part
-shape_of-part c = c.loop-y.invariant.1
-
-pub shape_of-marks : goal.shape_of-marks
-shape_of-marks c = c.loop-y.invariant.2 ∙ c.fill_words.auto.words
 
 pub returns : goal.returns
 returns c =
