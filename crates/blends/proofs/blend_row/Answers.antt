@@ -1,5 +1,5 @@
 -- `blends::blend_row` meets its contract. The loop's invariant: the first x pixels stand, and nothing else has changed. Assumes nothing.
-use mathlib.Core.Path.{◌≡◌, refl}
+use mathlib.Core.Path.{refl}
 use native.Mathlib.Omega.{arith}
 use lib.ListN.{length-set}
 use Rattle.lists.proofs.Fill.{fill_none}

@@ -2,7 +2,6 @@
 use Prim.Native.Nat.{◌+◌}
 use mathlib.Core.Path.{refl}
 use native.Mathlib.Omega.{arith}
-use lib.ListN.{length-set}
 use Rattle.blends.proofs.Stretch.{stretch_start, stretch_end, taken_turn}
 use Rattle.blends.proofs.by_place.Goals as goal
 

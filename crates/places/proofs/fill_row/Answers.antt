@@ -1,7 +1,6 @@
 -- `places::fill_row` meets its contract. Assumes nothing.
-use mathlib.Core.Path.{◌≡◌}
 use native.Mathlib.Omega.{arith}
-use Rattle.places.proofs.Places.{places_start, places_turn}
+use Rattle.places.proofs.Places.{places_turn}
 use Rattle.places.proofs.fill_row.Goals as goal
 
 pub loop-k-preserved : goal.loop-k-preserved

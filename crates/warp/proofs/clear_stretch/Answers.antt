@@ -1,7 +1,6 @@
 -- `warp::clear_stretch` meets its contract. Assumes nothing.
 use mathlib.Core.Path.{refl}
 use native.Mathlib.Omega.{arith}
-use lib.ListN.{length-set}
 use Rattle.floats.specs.F32.{0f}
 use Rattle.blends.proofs.Stretch.{stretch_start, stretch_more, stretch_end}
 use Rattle.warp.proofs.clear_stretch.Goals as goal

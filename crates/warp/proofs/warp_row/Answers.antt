@@ -1,6 +1,6 @@
 -- `warp::warp_row` meets its contract: a piece at a turn. Assumes nothing.
 use Prim.Native.Nat.{◌*◌}
-use mathlib.Core.Path.{◌≡◌, refl, ◌∙◌}
+use mathlib.Core.Path.{refl, ◌∙◌}
 use native.Mathlib.Omega.{arith}
 use Rattle.lists.proofs.Fill.{row_in}
 use Rattle.warp.proofs.Frame.{onward_none, onward_more, onward_holding}
