@@ -1,3 +1,4 @@
 pub mod Point
 pub mod Places
 pub mod Sizes
+pub mod Signs

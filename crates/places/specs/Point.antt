@@ -1,8 +1,10 @@
 -- Of document 000's warp_three_inverse_map: the computed point of a pixel, whether it lies inside, and the marks. Definitions only.
-use Rattle.std.specs.Prelude.{ℕ, ◌-◌, Bool, ◌&&◌, List, Float}
+use Rattle.std.specs.Prelude.{ℕ, ◌-◌, ◌^◌, ◌≡◌, Bool, false, ◌&&◌, List, Float}
+use Rattle.std.specs.Float.{nan, inf, fin}
 use Rattle.std.specs.Float.Ieee.{le, lt, to_unsigned}
 use Rattle.lists.specs.Lists.{grid}
 use Rattle.lists.specs.Marked.{pick}
+use Rattle.floats.specs.Bound.{Within}
 use Rattle.floats.specs.F32.{◌⊕◌, ◌⊗◌, f32, 0f}
 use Rattle.numbers.specs.Numbers.{floor_of}
 use Rattle.pose.specs.declared.Map.{Map}
@@ -34,3 +36,18 @@ marks_of map w h = grid w h (mark_of map w h)
 -- x0 = sx.floor() as usize, and y0 likewise
 unfoldable pub index_of : Float → ℕ
 index_of s = to_unsigned 64 (floor_of s)
+
+-- the entries are finite and not too large, so each computed point is finite
+pub record Small (map : Map) : Type 0 where
+  pub m00_small : Within map.m00 (2 ^ 80) 1
+  pub m01_small : Within map.m01 (2 ^ 80) 1
+  pub m02_small : Within map.m02 (2 ^ 80) 1
+  pub m10_small : Within map.m10 (2 ^ 80) 1
+  pub m11_small : Within map.m11 (2 ^ 80) 1
+  pub m12_small : Within map.m12 (2 ^ 80) 1
+
+-- finite, and the sign's bit is clear
+abbrev pub Unsigned : Float → Type 0
+Unsigned nan = ⊥
+Unsigned (inf s) = ⊥
+Unsigned (fin s m e) = s ≡ false

@@ -8,13 +8,15 @@
 #![tactic(auto)]
 
 ghost use Rattle.std.specs.Prelude.{◌≡◌, ℕ, ◌+◌, ◌-◌, ◌*◌, ◌≤◌, ◌<◌, length, get_or};
-ghost use Rattle.lists.specs.Premises.{InRange, Scratch};
+ghost use Rattle.lists.specs.Premises.{InRange};
 ghost use Rattle.lists.specs.Marked.{words_for};
 ghost use Rattle.floats.specs.F32.{0f};
 ghost use Rattle.bits.specs.Words.{unpacked_of};
 ghost use Rattle.warp.specs.Warp.{Warped};
 ghost use Rattle.blends.specs.Reads.{three_rows};
 ghost use Rattle.warp.specs.Rows.{read_of, Reach, Holding, WarpedThrough};
+
+use places::Scratch;
 
 // What the warp has marked: how many pixels, and the first and the last row that hold one.
 #[derive(Clone, Copy)]
@@ -31,12 +33,10 @@ fn clear_stretch(part: &mut [f32], n: usize, from: usize, to: usize)
     let first = 3 * n;
     let second = 4 * n;
     let third = 5 * n;
-    let mut x = from;
-    while x < to {
+    for x in from..to {
         part[first + x] = 0.0;
         part[second + x] = 0.0;
         part[third + x] = 0.0;
-        x += 1;
     }
 }
 
@@ -44,25 +44,24 @@ fn clear_stretch(part: &mut [f32], n: usize, from: usize, to: usize)
 fn reads(
     part: &mut [f32],
     marks: &[u64],
-    spots: &[u32],
-    across: &[f32],
-    down: &[f32],
+    scratch: &Scratch,
     w: usize,
     n: usize,
     at: usize,
     len: usize,
 )
-    requires { (at + len ≤ n) × (n ≤ 16777216) × (6 * n ≤ length part.old) × (words_for n ≤ length marks.now) × (len ≤ length spots.now)
-        × (len ≤ length across.now) × (len ≤ length down.now) × Reach n w at len (unpacked_of marks.now n) spots.now }
+    requires { (at + len ≤ n) × (n ≤ 16777216) × (6 * n ≤ length part.old) × (words_for n ≤ length marks.now) × (len ≤ 256)
+        × Reach n w at len (unpacked_of marks.now n) scratch.now.spots }
     ensures { part.new ≡ three_rows n at len
-        (read_of n w at (unpacked_of marks.now n) spots.now across.now down.now part.old)
+        (read_of n w at (unpacked_of marks.now n) scratch.now.spots scratch.now.across scratch.now.down part.old)
         part.old }
 {
+    // By hand: how far a turn goes is found in it.
     let mut x = 0;
     while x < len {
         let r = bits::next_stretch(marks, at + x, at + len);
         clear_stretch(part, n, at + x, r.from);
-        blends::reads_stretch(part, spots, across, down, w, n, at, r.from - at, r.to - at);
+        blends::reads_stretch(part, scratch, w, n, at, r.from - at, r.to - at);
         x = r.to - at;
     }
 }
@@ -71,10 +70,7 @@ fn reads(
 fn warp_piece(
     part: &mut [f32],
     marks: &mut [u64],
-    spots: &mut [u32],
-    across: &mut [f32],
-    down: &mut [f32],
-    flags: &mut [u32],
+    scratch: &mut Scratch,
     map: pose::Map,
     w: usize,
     h: usize,
@@ -83,38 +79,34 @@ fn warp_piece(
     len: usize,
 )
     requires { InRange w h × (y < h) × (x + len ≤ w) × (6 * (w * h) ≤ length part.old) × (words_for (w * h) ≤ length marks.old)
-        × Scratch len spots.old across.old down.old flags.old × Holding map w h (y * w + x) marks.old }
+        × (len ≤ 256) × Holding map w h (y * w + x) marks.old }
     ensures { WarpedThrough map w h (y * w + x) len part.old marks.old part.new marks.new }
 {
     let at = y * w + x;
-    places::places_row(spots, across, down, flags, map, w, h, x, y, len);
-    bits::pack(flags, marks, at, len);
-    reads(part, marks, spots, across, down, w, w * h, at, len);
+    places::places_row(scratch, map, w, h, x, y, len);
+    bits::pack(&scratch.flags, marks, at, len);
+    reads(part, marks, scratch, w, w * h, at, len);
 }
 
 // The row y, piece after piece.
 fn warp_row(
     part: &mut [f32],
     marks: &mut [u64],
-    spots: &mut [u32],
-    across: &mut [f32],
-    down: &mut [f32],
-    flags: &mut [u32],
+    scratch: &mut Scratch,
     map: pose::Map,
     w: usize,
     h: usize,
     y: usize,
 )
     requires { InRange w h × (y < h) × (6 * (w * h) ≤ length part.old) × (words_for (w * h) ≤ length marks.old)
-        × Scratch 256 spots.old across.old down.old flags.old × Holding map w h (y * w) marks.old }
+        × Holding map w h (y * w) marks.old }
     ensures { WarpedThrough map w h (y * w) w part.old marks.old part.new marks.new }
 {
+    // By hand: the last piece may be shorter, and a range by steps of 256 is left in two places, each to be proved.
     let mut x = 0;
     while x < w {
-        let len = numbers::least(256, w - x);
-        warp_piece(
-            part, marks, spots, across, down, flags, map, w, h, x, y, len,
-        );
+        let len = (w - x).min(256);
+        warp_piece(part, marks, scratch, map, w, h, x, y, len);
         x += len;
     }
 }
@@ -130,27 +122,16 @@ pub fn warp_three_inverse_map(
     requires { InRange w h × (6 * (w * h) ≤ length part.old) × (words_for (w * h) ≤ length marks.old) }
     ensures { Warped map w h part.old marks.old part.new marks.new result }
 {
-    let mut spots = [0u32; 256];
-    let mut across = [0.0f32; 256];
-    let mut down = [0.0f32; 256];
-    let mut flags = [0u32; 256];
+    let mut scratch = Scratch {
+        spots: [0; 256],
+        across: [0.0; 256],
+        down: [0.0; 256],
+        flags: [0; 256],
+    };
     let words = (w * h + 63) / 64;
     zeros::fill_words(marks, words);
-    let mut y = 0;
-    while y < h {
-        warp_row(
-            part,
-            marks,
-            &mut spots,
-            &mut across,
-            &mut down,
-            &mut flags,
-            map,
-            w,
-            h,
-            y,
-        );
-        y += 1;
+    for y in 0..h {
+        warp_row(part, marks, &mut scratch, map, w, h, y);
     }
     let rows = rows::marked_rows(marks, w, h);
     let count = bits::count(marks, words);

@@ -1,6 +1,5 @@
 -- `blends::blend_row` meets its contract. The loop's invariant: the first x pixels stand, and nothing else has changed. Assumes nothing.
-use Prim.Native.Nat.{◌-◌}
-use mathlib.Core.Path.{◌≡◌, refl}
+use mathlib.Core.Path.{refl}
 use native.Mathlib.Omega.{arith}
 use lib.ListN.{length-set}
 use Rattle.lists.proofs.Fill.{fill_none}
@@ -16,10 +15,5 @@ loop-x-preserved c =
     let a = c.args in (
       omega arith,
       simp length-set l.invariant.1,
-      row_more a.part.now a.across.now a.down.now a.w a.i a.from a.len a.to (omega arith) l.x (omega arith) l.part l.invariant.2 c.blend.result c.blend.ensures,
+      row_more a.part.now a.scratch.now.across a.scratch.now.down a.w a.i a.from a.len a.to (omega arith) l.x (omega arith) l.part l.invariant.2 c.blend.result c.blend.ensures,
     )
-
-pub returns : goal.returns
-returns c =
-    let e : c.loop-x.x ≡ c.args.len = omega arith in
-    rw e at c.loop-x.invariant.2

@@ -11,17 +11,13 @@ use Rattle.blends.proofs.Runs.{next, breaks_none, breaks_turn, breaks_le}
 use Rattle.blends.proofs.breaks.Goals.{then-spots-x, else-spots-x}
 use Rattle.blends.proofs.breaks.Goals as goal
 
-pub loop-x-init : goal.loop-x-init
-loop-x-init c =
-    let none : c.args.from + 1 - c.args.from - 1 ≡ 0 = omega arith in (omega arith, omega arith, rw none (sym (breaks_none c.args.spots.now c.args.from)))
-
-pub overflow_add-spots : goal.overflow_add-spots
-overflow_add-spots c =
-    let l = c.loop-x in record { fits = omega (arith, c.requires.3 (l.x - 1) (omega arith) (omega arith)) }
-
 pub overflow_add-k : goal.overflow_add-k
 overflow_add-k c =
     let l = c.loop-x in record { fits = omega (arith, breaks_le c.args.spots.now c.args.from (l.x - c.args.from - 1)) }
+
+pub loop-x-init : goal.loop-x-init
+loop-x-init c =
+    let none : c.args.from + 1 - c.args.from - 1 ≡ 0 = omega arith in (omega arith, omega arith, rw none (sym (breaks_none c.args.spots.now c.args.from)))
 
 pub loop-x-preserved : goal.loop-x-preserved
 loop-x-preserved c =
@@ -36,7 +32,3 @@ loop-x-preserved c =
       | else-spots-x way ↦ way.k-is ∙ l.invariant.2 ∙ sym (add-zero k) ∙ ap (λ (z : ℕ). k + z) (sym (pick_true follows 0 1 (eq-eqb _ _ way.if-spots-x.false)))
     ] in
     let l = c.loop-x in (omega arith, omega arith, count_is ∙ sym (breaks_turn c.args.spots.now c.args.from l.x l.invariant.0))
-
-pub returns : goal.returns
-returns c =
-    let e : c.loop-x.x ≡ c.args.to = omega arith in rw e at c.loop-x.invariant.2

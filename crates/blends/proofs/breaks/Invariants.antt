@@ -6,6 +6,3 @@ use Rattle.blends.proofs.breaks.Given as goal
 
 abbrev pub invariant-loop-x : goal.invariant-loop-x
 invariant-loop-x l = (l.from < l.x) × (l.x ≤ l.to) × (l.k ≡ breaks_of l.spots l.from (l.x - l.from - 1))
-
-abbrev pub decreases-loop-x : goal.decreases-loop-x
-decreases-loop-x l = l.to - l.x

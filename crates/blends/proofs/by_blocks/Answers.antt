@@ -1,8 +1,7 @@
 -- `blends::by_blocks` meets its contract: a turn reads some more pixels of the stretch, in one of two ways. Assumes nothing.
-use Prim.Native.Nat.{ℕ, ◌+◌, ◌-◌, ◌≤◌, ◌<◌}
+use Prim.Native.Nat.{◌+◌}
 use mathlib.Core.Path.{sym, ◌∙◌}
 use native.Mathlib.Omega.{arith}
-use lib.ListN.{get_or}
 use Rattle.blends.proofs.Stretch.{stretch_start, stretch_end, taken_block}
 use Rattle.blends.proofs.by_blocks.Goals as goal
 
@@ -11,67 +10,35 @@ loop-x-init c =
     let a = c.args in
     stretch_start a.n (a.at + a.from) a.from a.to _ a.part.now (omega arith)
 
-pub breaks-requires : goal.breaks-requires
-breaks-requires c =
-    let turn : (c.loop-x.x < c.least-end.result) × (c.least-end.result ≤ c.args.to) =
-    let l = c.loop-x in (omega (arith, c.least-end.ensures), omega (arith, c.least-end.ensures)) in
-    let reach : (x : ℕ) → c.loop-x.x ≤ x → x < c.least-end.result →
-    let a = c.args in get_or a.spots.now x 0 + a.w + 1 < a.n =
-    λ x p q. c.requires.1.6 x (omega (arith, c.loop-x.invariant.low)) (omega (arith, turn.1)) in
-    let t = turn in
-    (t.0, omega arith, omega arith, λ x p q. omega (arith, reach x p q))
+pub breaks-broken-requires : goal.breaks-broken-requires
+breaks-broken-requires c = (omega arith, omega arith, omega arith, λ x p q. omega (arith, c.requires.1.4 x (omega (arith, c.loop-x.invariant.low)) (omega arith)))
 
 pub by_run-requires : goal.by_run-requires
 by_run-requires c =
-    let turn : (c.loop-x.x < c.least-end.result) × (c.least-end.result ≤ c.args.to) =
-    let l = c.loop-x in (omega (arith, c.least-end.ensures), omega (arith, c.least-end.ensures)) in
-    let reach : (x : ℕ) → c.loop-x.x ≤ x → x < c.least-end.result →
-    let a = c.args in get_or a.spots.now x 0 + a.w + 1 < a.n =
-    λ x p q. c.requires.1.6 x (omega (arith, c.loop-x.invariant.low)) (omega (arith, turn.1)) in
-    let t = turn in
-    let l = c.loop-x in
-    (t.0, sym c.breaks.ensures ∙ c.if-breaks-eq0.true, (omega arith, omega arith, omega (arith, l.invariant.part_length), omega arith, omega arith, omega arith, reach))
+    let i = c.loop-x.invariant in (
+      omega arith,
+      sym c.breaks-broken.ensures ∙ c.if-broken-eq0.true,
+      (omega arith, omega arith, omega (arith, i.part_length), omega arith, λ x p q. c.requires.1.4 x (omega (arith, i.low)) (omega arith)),
+    )
 
 pub by_place-requires : goal.by_place-requires
 by_place-requires c =
-    let turn : (c.loop-x.x < c.least-end.result) × (c.least-end.result ≤ c.args.to) =
-    let l = c.loop-x in (omega (arith, c.least-end.ensures), omega (arith, c.least-end.ensures)) in
-    let reach : (x : ℕ) → c.loop-x.x ≤ x → x < c.least-end.result →
-    let a = c.args in get_or a.spots.now x 0 + a.w + 1 < a.n =
-    λ x p q. c.requires.1.6 x (omega (arith, c.loop-x.invariant.low)) (omega (arith, turn.1)) in
-    let t = turn in
-    let l = c.loop-x in
-    (omega arith, omega arith, omega (arith, l.invariant.part_length), omega arith, omega arith, omega arith, reach)
+    let i = c.loop-x.invariant in
+    (omega arith, omega arith, omega (arith, i.part_length), omega arith, λ x p q. c.requires.1.4 x (omega (arith, i.low)) (omega arith))
 
-pub loop-x-smaller-then-breaks-eq0 : goal.loop-x-smaller-then-breaks-eq0
-loop-x-smaller-then-breaks-eq0 c =
-    let turn : (c.loop-x.x < c.least-end.result) × (c.least-end.result ≤ c.args.to) =
-    let l = c.loop-x in (omega (arith, c.least-end.ensures), omega (arith, c.least-end.ensures)) in
-    let t = turn in omega arith
-
-pub loop-x-preserved-then-breaks-eq0 : goal.loop-x-preserved-then-breaks-eq0
-loop-x-preserved-then-breaks-eq0 c =
-    let turn : (c.loop-x.x < c.least-end.result) × (c.least-end.result ≤ c.args.to) =
-    let l = c.loop-x in (omega (arith, c.least-end.ensures), omega (arith, c.least-end.ensures)) in
+pub loop-x-preserved-then-broken-eq0 : goal.loop-x-preserved-then-broken-eq0
+loop-x-preserved-then-broken-eq0 c =
     let l = c.loop-x in
-    let t = turn in
     let a = c.args in
-    taken_block a.n a.w a.at a.from a.to a.spots.now a.across.now a.down.now a.part.now (omega arith) l.part _ l.x c.least-end.result (omega arith) t.1 l.invariant c.by_run.ensures
-
-pub loop-x-smaller : goal.loop-x-smaller
-loop-x-smaller c =
-    let turn : (c.loop-x.x < c.least-end.result) × (c.least-end.result ≤ c.args.to) =
-    let l = c.loop-x in (omega (arith, c.least-end.ensures), omega (arith, c.least-end.ensures)) in
-    let t = turn in omega arith
+    let s = a.scratch.now in
+    taken_block a.n a.w a.at a.from a.to s.spots s.across s.down a.part.now (omega arith) l.part _ l.x c.min-end.result (omega arith) (omega arith) l.invariant c.by_run.ensures
 
 pub loop-x-preserved : goal.loop-x-preserved
 loop-x-preserved c =
-    let turn : (c.loop-x.x < c.least-end.result) × (c.least-end.result ≤ c.args.to) =
-    let l = c.loop-x in (omega (arith, c.least-end.ensures), omega (arith, c.least-end.ensures)) in
     let l = c.loop-x in
-    let t = turn in
     let a = c.args in
-    taken_block a.n a.w a.at a.from a.to a.spots.now a.across.now a.down.now a.part.now (omega arith) l.part _ l.x c.least-end.result (omega arith) t.1 l.invariant c.by_place.ensures
+    let s = a.scratch.now in
+    taken_block a.n a.w a.at a.from a.to s.spots s.across s.down a.part.now (omega arith) l.part _ l.x c.min-end.result (omega arith) (omega arith) l.invariant c.by_place.ensures
 
 pub returns : goal.returns
 returns c =

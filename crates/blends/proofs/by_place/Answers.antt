@@ -1,7 +1,7 @@
 -- `blends::by_place` meets its contract. Assumes nothing.
-use Prim.Native.Nat.{◌+◌, ◌-◌}
+use Prim.Native.Nat.{◌+◌}
+use mathlib.Core.Path.{refl}
 use native.Mathlib.Omega.{arith}
-use lib.ListN.{length-set}
 use Rattle.blends.proofs.Stretch.{stretch_start, stretch_end, taken_turn}
 use Rattle.blends.proofs.by_place.Goals as goal
 
@@ -13,20 +13,14 @@ loop-x-init c =
 pub mix-p-requires : goal.mix-p-requires
 mix-p-requires c =
     let l = c.loop-x in
-    (omega (arith, l.invariant.part_length), omega (arith, c.wide.ensures, c.requires.6 l.x l.invariant.low (omega arith)))
-
-pub bounds-part-second : goal.bounds-part-second
-bounds-part-second c = simp length-set (omega arith)
-
-pub bounds-part-third : goal.bounds-part-third
-bounds-part-third c = simp length-set (omega arith)
+    (omega (arith, l.invariant.part_length), omega (arith, c.requires.4 l.x l.invariant.low (omega arith)))
 
 pub loop-x-preserved : goal.loop-x-preserved
 loop-x-preserved c =
     let l = c.loop-x in
     let a = c.args in
-    let w = c.wide in
-    taken_turn a.n a.w a.at a.from a.to a.spots.now a.across.now a.down.now a.part.now (omega arith) l.part l.x w.result c.mix-p.result (omega arith) l.invariant w.ensures c.mix-p.ensures
+    let s = a.scratch.now in
+    taken_turn a.n a.w a.at a.from a.to s.spots s.across s.down a.part.now (omega arith) l.part l.x _ c.mix-p.result (omega arith) l.invariant refl c.mix-p.ensures
 
 pub returns : goal.returns
 returns c =

@@ -1,26 +1,15 @@
--- `places::is_inside` meets its contract: the flag of each `&&` is the conjunction of the tests so far. Assumes nothing.
-use mathlib.Core.Path.{◌≡◌, ◌∙◌}
-use mathlib.Core.Bool.{◌&&◌}
-use lib.Ieee.{le, lt}
-use Rattle.floats.specs.F32.{0f}
-use Rattle.places.specs.Point.{inside}
-use Rattle.places.proofs.is_inside.Goals.{else-sx, else-sy, then-sx, then-sy}
+-- `places::is_inside` meets its contract. Assumes nothing.
+use native.Mathlib.Omega.{arith}
+use Rattle.places.proofs.Signs.{inside_told, whole_unsigned}
 use Rattle.places.proofs.is_inside.Goals as goal
 
-pub returns-then-sx-right : goal.returns-then-sx-right
-unfolding inside
-returns-then-sx-right c =
-    let two : let a = c.args in c.if-sx.value ≡ (le 0f a.sx && le 0f a.sy) =
-    elim c.if-sx.branch [ then-sx w ↦ rw w.if-sx.true w.value-is | else-sx w ↦ rw w.if-sx.false (w.value-is ∙ w.if-sx.false) ] in
-    let three : let a = c.args in c.if-sy.value ≡ (le 0f a.sx && le 0f a.sy && lt a.sx c.to_f32_short-right.result) =
-    rw (← two) (elim c.if-sy.branch [ then-sy w ↦ rw w.if-sy.true w.value-is | else-sy w ↦ rw w.if-sy.false (w.value-is ∙ w.if-sy.false) ]) in
-    rw (← c.to_f32_short-right.ensures, ← c.to_f32_short-low.ensures, ← three, c.if-sx-right.true)
+pub is_below-requires-3 : goal.is_below-requires-3
+is_below-requires-3 g c = λ e. ((c.requires.1 e).0, rw c.exactly-right.ensures (whole_unsigned _ (omega (arith, c.requires.0.w_most))))
 
-pub returns-else-sx-right : goal.returns-else-sx-right
-unfolding inside
-returns-else-sx-right c =
-    let two : let a = c.args in c.if-sx.value ≡ (le 0f a.sx && le 0f a.sy) =
-    elim c.if-sx.branch [ then-sx w ↦ rw w.if-sx.true w.value-is | else-sx w ↦ rw w.if-sx.false (w.value-is ∙ w.if-sx.false) ] in
-    let three : let a = c.args in c.if-sy.value ≡ (le 0f a.sx && le 0f a.sy && lt a.sx c.to_f32_short-right.result) =
-    rw (← two) (elim c.if-sy.branch [ then-sy w ↦ rw w.if-sy.true w.value-is | else-sy w ↦ rw w.if-sy.false (w.value-is ∙ w.if-sy.false) ]) in
-    rw (← c.to_f32_short-right.ensures, ← three, c.if-sx-right.false)
+pub is_below-requires-4 : goal.is_below-requires-4
+is_below-requires-4 g c = λ e. ((c.requires.1 e).1, rw c.exactly-low.ensures (whole_unsigned _ (omega (arith, c.requires.0.h_most))))
+
+pub returns : goal.returns
+returns g c =
+    let a = c.args in
+    rw (c.is_below.ensures, c.is_below-2.ensures, c.is_below-3.ensures, c.is_below-4.ensures, c.exactly-right.ensures, c.exactly-low.ensures) (inside_told a.w a.h a.sx a.sy)

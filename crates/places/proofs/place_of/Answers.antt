@@ -1,7 +1,6 @@
 -- `places::place_of` meets its contract. Outside, the point is taken as 0, so that its whole parts are small all the same. Assumes nothing.
 use Prim.Native.Nat.{ℕ, ◌+◌, ◌*◌, ◌≤◌, ◌<◌}
-use native.Mathlib.Nat.{mul-le-mul}
-use mathlib.Core.Path.{◌≡◌, ap, ap₂, ◌∙◌}
+use mathlib.Core.Path.{◌≡◌, refl, ap, ap₂, ◌∙◌}
 use mathlib.Core.Bool.{Bool}
 use native.Mathlib.Omega.{arith}
 use lib.Dec.{T}
@@ -11,119 +10,79 @@ use Rattle.lists.specs.Marked.{pick}
 use Rattle.floats.specs.F32.{◌⊕◌, ◌⊖◌, ◌⊗◌, f32, 0f}
 use Rattle.numbers.proofs.Small.{Below}
 use Rattle.bits.specs.Packing.{flag_of}
-use Rattle.places.specs.Point.{inside, marked_at, index_of}
+use Rattle.pose.specs.declared.Map.{Map}
+use Rattle.places.specs.Point.{sx_of, sy_of, inside, marked_at, index_of}
+use Rattle.places.specs.Places.{PlaceOf}
+use Rattle.places.specs.declared.Place.{Place}
 use Rattle.places.proofs.Point.{zeroed_x, zeroed_y, zeroed_x_lem, zeroed_y_lem, spot_is, place_of}
+use Rattle.places.proofs.Signs.{finite_x, finite_y}
 use Rattle.places.proofs.place_of.Goals as goal
+
+-- what the code has worked out: the point, whether it is inside, and its coordinates or 0
+module _ (map : Map) (w h x y : ℕ) (W : w ≤ 4096) (H : h ≤ 4096) (sx sy tx ty : Float) (within : Bool) (sx_is : sx ≡ sx_of map x y) (sy_is : sy ≡ sy_of map x y)
+    (told : within ≡ inside w h sx sy) (tx_told : tx ≡ pick within sx 0f) (ty_told : ty ≡ pick within sy 0f) where
+  within_is : within ≡ marked_at map w h x y
+  unfolding marked_at
+  within_is = told ∙ ap₂ (inside w h) sx_is sy_is
+
+  tx_is : tx ≡ zeroed_x map w h x y
+  tx_is = tx_told ∙ ap₂ (λ (b : Bool) (s : Float). pick b s 0f) within_is sx_is
+
+  ty_is : ty ≡ zeroed_y map w h x y
+  ty_is = ty_told ∙ ap₂ (λ (b : Bool) (s : Float). pick b s 0f) within_is sy_is
+
+  below_x : Below tx 4096
+  below_x = rw tx_is (zeroed_x_lem map w h x y W H)
+
+  below_y : Below ty 4096
+  below_y = rw ty_is (zeroed_y_lem map w h x y W H)
+
+  -- and their floors
+  module _ (x0 y0 side : Float) (x0_is : x0 ≡ f32 (index_of tx)) (y0_is : y0 ≡ f32 (index_of ty)) (side_is : side ≡ f32 w) where
+    spot : let v = y0 ⊗ side ⊕ x0 in T (in_signed binary32 31 v) × (to_signed 31 v ≡ pos (to_unsigned 32 v)) × (to_unsigned 32 v ≡ index_of ty * w + index_of tx)
+    unfolding index_of
+    spot = rw (y0_is, x0_is, side_is) (spot_is w _ _ W below_x.index below_y.index)
+
+    placed : (p : Place) → p.at ≡ to_unsigned 32 (y0 ⊗ side ⊕ x0) → p.across ≡ tx ⊖ x0 → p.down ≡ ty ⊖ y0 → p.flag ≡ flag_of within (y * w + x) → PlaceOf map w h x y p
+    placed p at across down flag =
+        place_of map w h x y p (flag ∙ ap (λ (b : Bool). flag_of b (y * w + x)) within_is)
+        (record {
+          at_is = at ∙ spot.2 ∙ ap₂ (λ (s t : Float). index_of t * w + index_of s) tx_is ty_is;
+          across_is = across ∙ ap₂ ◌⊖◌ tx_is (x0_is ∙ ap (λ (s : Float). f32 (index_of s)) tx_is);
+          down_is = down ∙ ap₂ ◌⊖◌ ty_is (y0_is ∙ ap (λ (s : Float). f32 (index_of s)) ty_is);
+        })
 
 le_of_lt_of_le : {a b c : ℕ} → a < b → b ≤ c → a ≤ c
 le_of_lt_of_le h l = omega arith
 
-pub floor_small-x0-requires : goal.floor_small-x0-requires
-unfolding marked_at
-floor_small-x0-requires c =
-    let tx : Float =
-    let a = c.args in zeroed_x a.map a.w a.h a.x a.y in
-    let below_x : Below tx 4096 =
-    let a = c.args in zeroed_x_lem a.map a.w a.h a.x a.y (omega arith) (omega arith) in
-    let marked : Bool =
-    let a = c.args in marked_at a.map a.w a.h a.x a.y in
-    let within_is : c.is_inside-within.result ≡ marked =
+pub is_inside-within-requires : goal.is_inside-within-requires
+is_inside-within-requires g c =
     let a = c.args in
-    c.is_inside-within.ensures ∙ ap₂ (inside a.w a.h) c.point_x-sx.ensures c.point_y-sy.ensures in
-    let x_is : c.or_zero-tx.result ≡ tx =
-    c.or_zero-tx.ensures ∙ ap₂ (λ (b : Bool) (s : Float). pick b s 0f) within_is c.point_x-sx.ensures in
-    rw x_is below_x.small
+    let r = c.requires in (
+      record { w_least = omega arith; w_most = r.1; h_least = omega arith; h_most = r.3 },
+      λ e. let s = r.4 e in (rw c.point_x-sx.ensures (finite_x a.map s a.x a.y (omega arith) (omega arith)), rw c.point_y-sy.ensures (finite_y a.map s a.x a.y (omega arith) (omega arith))),
+    )
+
+pub floor_small-x0-requires : goal.floor_small-x0-requires
+floor_small-x0-requires g c =
+    let a = c.args in
+    (below_x a.map a.w a.h a.x a.y (omega arith) (omega arith) _ _ _ _ _ c.point_x-sx.ensures c.point_y-sy.ensures c.is_inside-within.ensures c.or_zero-tx.ensures c.or_zero-ty.ensures).small
 
 pub floor_small-y0-requires : goal.floor_small-y0-requires
-unfolding marked_at
-floor_small-y0-requires c =
-    let ty : Float =
-    let a = c.args in zeroed_y a.map a.w a.h a.x a.y in
-    let below_y : Below ty 4096 =
-    let a = c.args in zeroed_y_lem a.map a.w a.h a.x a.y (omega arith) (omega arith) in
-    let marked : Bool =
-    let a = c.args in marked_at a.map a.w a.h a.x a.y in
-    let within_is : c.is_inside-within.result ≡ marked =
+floor_small-y0-requires g c =
     let a = c.args in
-    c.is_inside-within.ensures ∙ ap₂ (inside a.w a.h) c.point_x-sx.ensures c.point_y-sy.ensures in
-    let y_is : c.or_zero-ty.result ≡ ty =
-    c.or_zero-ty.ensures ∙ ap₂ (λ (b : Bool) (s : Float). pick b s 0f) within_is c.point_y-sy.ensures in
-    rw y_is below_y.small
+    (below_y a.map a.w a.h a.x a.y (omega arith) (omega arith) _ _ _ _ _ c.point_x-sx.ensures c.point_y-sy.ensures c.is_inside-within.ensures c.or_zero-tx.ensures c.or_zero-ty.ensures).small
 
 pub index-at-requires : goal.index-at-requires
-unfolding marked_at index_of
-index-at-requires c =
-    let tx : Float =
-    let a = c.args in zeroed_x a.map a.w a.h a.x a.y in
-    let ty : Float =
-    let a = c.args in zeroed_y a.map a.w a.h a.x a.y in
-    let below_x : Below tx 4096 =
-    let a = c.args in zeroed_x_lem a.map a.w a.h a.x a.y (omega arith) (omega arith) in
-    let below_y : Below ty 4096 =
-    let a = c.args in zeroed_y_lem a.map a.w a.h a.x a.y (omega arith) (omega arith) in
-    let marked : Bool =
-    let a = c.args in marked_at a.map a.w a.h a.x a.y in
-    let within_is : c.is_inside-within.result ≡ marked =
+unfolding index_of
+index-at-requires g c =
     let a = c.args in
-    c.is_inside-within.ensures ∙ ap₂ (inside a.w a.h) c.point_x-sx.ensures c.point_y-sy.ensures in
-    let x_is : c.or_zero-tx.result ≡ tx =
-    c.or_zero-tx.ensures ∙ ap₂ (λ (b : Bool) (s : Float). pick b s 0f) within_is c.point_x-sx.ensures in
-    let x0_is : c.floor_small-x0.result ≡ f32 (index_of tx) =
-    c.floor_small-x0.ensures ∙ ap (λ (s : Float). f32 (index_of s)) x_is in
-    let y_is : c.or_zero-ty.result ≡ ty =
-    c.or_zero-ty.ensures ∙ ap₂ (λ (b : Bool) (s : Float). pick b s 0f) within_is c.point_y-sy.ensures in
-    let y0_is : c.floor_small-y0.result ≡ f32 (index_of ty) =
-    c.floor_small-y0.ensures ∙ ap (λ (s : Float). f32 (index_of s)) y_is in
-    let spot :
-    let v = c.floor_small-y0.result ⊗ c.to_f32_short.result ⊕ c.floor_small-x0.result in
-    T (in_signed binary32 31 v) × (to_signed 31 v ≡ pos (to_unsigned 32 v)) × (to_unsigned 32 v ≡ index_of ty * c.args.w + index_of tx) =
-    rw (y0_is, x0_is, c.to_f32_short.ensures) (spot_is c.args.w _ _ (omega arith) below_x.index below_y.index) in
-    let p = spot in (p.0, p.1)
-
-pub overflow_mul-y : goal.overflow_mul-y
-overflow_mul-y c =
-    let row : let a = c.args in a.y * a.w ≤ 4096 * 4096 =
-    let p = c.requires in mul-le-mul (le_of_lt_of_le p.2 p.3) p.1 in
-    omega (arith, row)
-
-pub overflow_add-y : goal.overflow_add-y
-overflow_add-y c =
-    let row : let a = c.args in a.y * a.w ≤ 4096 * 4096 =
-    let p = c.requires in mul-le-mul (le_of_lt_of_le p.2 p.3) p.1 in
-    omega (arith, row)
+    let p = spot a.map a.w a.h a.x a.y (omega arith) (omega arith) _ _ _ _ _ c.point_x-sx.ensures c.point_y-sy.ensures c.is_inside-within.ensures c.or_zero-tx.ensures c.or_zero-ty.ensures _ _ _ c.floor_small-x0.ensures c.floor_small-y0.ensures c.exactly.ensures in
+    (p.0, p.1)
 
 pub returns : goal.returns
-unfolding marked_at index_of
-returns c =
-    let marked : Bool =
-    let a = c.args in marked_at a.map a.w a.h a.x a.y in
-    let within_is : c.is_inside-within.result ≡ marked =
+unfolding index_of
+returns g c =
     let a = c.args in
-    c.is_inside-within.ensures ∙ ap₂ (inside a.w a.h) c.point_x-sx.ensures c.point_y-sy.ensures in
-    let tx : Float =
-    let a = c.args in zeroed_x a.map a.w a.h a.x a.y in
-    let x_is : c.or_zero-tx.result ≡ tx =
-    c.or_zero-tx.ensures ∙ ap₂ (λ (b : Bool) (s : Float). pick b s 0f) within_is c.point_x-sx.ensures in
-    let x0_is : c.floor_small-x0.result ≡ f32 (index_of tx) =
-    c.floor_small-x0.ensures ∙ ap (λ (s : Float). f32 (index_of s)) x_is in
-    let ty : Float =
-    let a = c.args in zeroed_y a.map a.w a.h a.x a.y in
-    let y_is : c.or_zero-ty.result ≡ ty =
-    c.or_zero-ty.ensures ∙ ap₂ (λ (b : Bool) (s : Float). pick b s 0f) within_is c.point_y-sy.ensures in
-    let y0_is : c.floor_small-y0.result ≡ f32 (index_of ty) =
-    c.floor_small-y0.ensures ∙ ap (λ (s : Float). f32 (index_of s)) y_is in
-    let below_x : Below tx 4096 =
-    let a = c.args in zeroed_x_lem a.map a.w a.h a.x a.y (omega arith) (omega arith) in
-    let below_y : Below ty 4096 =
-    let a = c.args in zeroed_y_lem a.map a.w a.h a.x a.y (omega arith) (omega arith) in
-    let spot :
-    let v = c.floor_small-y0.result ⊗ c.to_f32_short.result ⊕ c.floor_small-x0.result in
-    T (in_signed binary32 31 v) × (to_signed 31 v ≡ pos (to_unsigned 32 v)) × (to_unsigned 32 v ≡ index_of ty * c.args.w + index_of tx) =
-    rw (y0_is, x0_is, c.to_f32_short.ensures) (spot_is c.args.w _ _ (omega arith) below_x.index below_y.index) in
-    let a = c.args in
-    place_of a.map a.w a.h a.x a.y _ (c.flag-flag.ensures ∙ ap (λ (b : Bool). flag_of b (a.y * a.w + a.x)) within_is)
-    (record {
-      at_is = c.index-at.ensures ∙ spot.2;
-      across_is = ap₂ ◌⊖◌ x_is x0_is;
-      down_is = ap₂ ◌⊖◌ y_is y0_is;
-    })
+    placed a.map a.w a.h a.x a.y (omega arith) (omega arith) _ _ _ _ _ c.point_x-sx.ensures c.point_y-sy.ensures c.is_inside-within.ensures c.or_zero-tx.ensures c.or_zero-ty.ensures _ _ _ c.floor_small-x0.ensures c.floor_small-y0.ensures c.exactly.ensures
+    _ c.index-at.ensures refl refl c.flag-flag.ensures

@@ -1,8 +1,6 @@
 -- `warp::clear_stretch` meets its contract. Assumes nothing.
 use mathlib.Core.Path.{refl}
-use Prim.Native.Nat.{◌-◌}
 use native.Mathlib.Omega.{arith}
-use lib.ListN.{length-set}
 use Rattle.floats.specs.F32.{0f}
 use Rattle.blends.proofs.Stretch.{stretch_start, stretch_more, stretch_end}
 use Rattle.warp.proofs.clear_stretch.Goals as goal
@@ -11,12 +9,6 @@ pub loop-x-init : goal.loop-x-init
 loop-x-init c =
     let a = c.args in
     stretch_start a.n a.from a.from a.to (λ _ _. 0f) a.part.now (omega arith)
-
-pub bounds-part-second : goal.bounds-part-second
-bounds-part-second c = simp length-set (omega arith)
-
-pub bounds-part-third : goal.bounds-part-third
-bounds-part-third c = simp length-set (omega arith)
 
 pub loop-x-preserved : goal.loop-x-preserved
 loop-x-preserved c =

@@ -1,5 +1,5 @@
 -- `warp::reads` meets its contract: a stretch at a turn. Assumes nothing.
-use Prim.Native.Nat.{◌+◌, ◌-◌}
+use Prim.Native.Nat.{◌+◌}
 use native.Mathlib.Omega.{arith}
 use Rattle.bits.proofs.Stretches.{stretch_full, stretch_further}
 use Rattle.warp.proofs.Rows.{reads_start, reads_turn, reads_end}
@@ -8,7 +8,7 @@ use Rattle.warp.proofs.reads.Goals as goal
 pub loop-x-init : goal.loop-x-init
 loop-x-init c =
     let a = c.args in
-    reads_start a.n a.w a.at a.len a.marks.now a.spots.now a.across.now a.down.now a.part.now (omega arith)
+    reads_start a.n a.w a.at a.len a.marks.now a.scratch.now.spots a.scratch.now.across a.scratch.now.down a.part.now (omega arith)
 
 pub clear_stretch-requires : goal.clear_stretch-requires
 clear_stretch-requires c =
@@ -30,9 +30,7 @@ reads_stretch-requires c =
         omega (arith, o.low, o.order, o.high),
         omega (arith, l.invariant.part_length, kept),
         omega (arith, o.high),
-        omega (arith, o.high),
-        omega (arith, o.high),
-        λ x p q. f.7.reach x (omega (arith, o.low, o.high)) (stretch_full a.marks.now a.n (a.at + a.len) (a.at + l.x) r f.0 o (a.at + x) (omega (arith, o.low)) (omega (arith, o.low, o.order))),
+        λ x p q. f.5.reach x (omega (arith, o.low, o.high)) (stretch_full a.marks.now a.n (a.at + a.len) (a.at + l.x) r f.0 o (a.at + x) (omega (arith, o.low)) (omega (arith, o.low, o.order))),
       ),
     )
 
@@ -48,10 +46,10 @@ loop-x-preserved c =
     let l = c.loop-x in
     let a = c.args in
     let o = c.next_stretch-r.ensures in
-    reads_turn a.n a.w a.at a.len a.marks.now a.spots.now a.across.now a.down.now a.part.now (omega arith) l.part l.x c.next_stretch-r.result o l.invariant _ c.clear_stretch.ensures _ c.reads_stretch.ensures
+    reads_turn a.n a.w a.at a.len a.marks.now a.scratch.now.spots a.scratch.now.across a.scratch.now.down a.part.now (omega arith) l.part l.x c.next_stretch-r.result o l.invariant _ c.clear_stretch.ensures _ c.reads_stretch.ensures
 
 pub returns : goal.returns
 returns c =
     let l = c.loop-x in
     let a = c.args in
-    reads_end a.n a.w a.at a.len a.marks.now a.spots.now a.across.now a.down.now a.part.now (omega arith) l.part l.x (omega (arith, l.invariant.bound)) l.invariant
+    reads_end a.n a.w a.at a.len a.marks.now a.scratch.now.spots a.scratch.now.across a.scratch.now.down a.part.now (omega arith) l.part l.x (omega (arith, l.invariant.bound)) l.invariant

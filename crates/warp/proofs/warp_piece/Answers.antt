@@ -27,27 +27,25 @@ overflow_add-at c =
 
 pub pack-requires : goal.pack-requires
 pack-requires c =
-    let flags : let a = c.args in Flags c.places_row.new.flags (a.y * a.w + a.x) a.len =
+    let flags : let a = c.args in Flags c.places_row.new.scratch.flags (a.y * a.w + a.x) a.len =
     let a = c.args in piece_flags a.map a.w a.h a.x a.y a.len _ _ _ _ c.places_row.ensures (c.requires.1, c.requires.2) in
     let row : let a = c.args in a.y * a.w + a.w ≤ a.w * a.h =
     let a = c.args in row_in a.w a.y a.h c.requires.1 in
     let few : let a = c.args in a.w * a.h ≤ 16777216 =
     mul-le-mul c.requires.0.w_most c.requires.0.h_most in
     let a = c.args in
-    (omega (arith, c.requires.5.flags_fit, c.places_row.auto.flags), omega (arith, row, c.requires.2, c.requires.4), omega (arith, row, few, c.requires.2), flags)
+    (omega arith, omega (arith, row, c.requires.2, c.requires.4), omega (arith, row, few, c.requires.2), flags)
 
 pub reads-requires : goal.reads-requires
 reads-requires c =
-    let reach : let a = c.args in Reach (a.w * a.h) a.w (a.y * a.w + a.x) a.len (unpacked_of c.pack.new.words (a.w * a.h)) c.places_row.new.spots =
+    let reach : let a = c.args in Reach (a.w * a.h) a.w (a.y * a.w + a.x) a.len (unpacked_of c.pack.new.words (a.w * a.h)) c.places_row.new.scratch.spots =
     let a = c.args in
     piece_reach a.map a.w a.h a.x a.y a.len _ _ _ _ c.places_row.ensures (c.requires.1, c.requires.2) a.marks.now _ c.requires.4 c.requires.6 c.pack.ensures c.requires.0.w_most c.requires.0.h_most in
     let row : let a = c.args in a.y * a.w + a.w ≤ a.w * a.h =
     let a = c.args in row_in a.w a.y a.h c.requires.1 in
     let few : let a = c.args in a.w * a.h ≤ 16777216 =
     mul-le-mul c.requires.0.w_most c.requires.0.h_most in
-    let k = c.places_row.auto in
-    let f = c.requires.5 in
-    (omega (arith, row, c.requires.2), few, c.requires.3, omega (arith, c.requires.4, c.pack.auto.words), omega (arith, f.spots_fit, k.spots), omega (arith, f.across_fit, k.across), omega (arith, f.down_fit, k.down), reach)
+    (omega (arith, row, c.requires.2), few, c.requires.3, omega (arith, c.requires.4, c.pack.auto.words), c.requires.5, reach)
 
 pub returns : goal.returns
 returns c =

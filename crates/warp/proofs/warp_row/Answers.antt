@@ -1,6 +1,6 @@
 -- `warp::warp_row` meets its contract: a piece at a turn. Assumes nothing.
-use Prim.Native.Nat.{◌-◌, ◌*◌}
-use mathlib.Core.Path.{◌≡◌, refl, ◌∙◌}
+use Prim.Native.Nat.{◌*◌}
+use mathlib.Core.Path.{refl, ◌∙◌}
 use native.Mathlib.Omega.{arith}
 use Rattle.lists.proofs.Fill.{row_in}
 use Rattle.warp.proofs.Frame.{onward_none, onward_more, onward_holding}
@@ -9,32 +9,23 @@ use Rattle.warp.proofs.warp_row.Goals as goal
 pub loop-x-init : goal.loop-x-init
 loop-x-init c =
     let a = c.args in
-    (onward_none a.map a.w a.h (a.y * a.w) a.part.now a.marks.now c.requires.5, omega arith, refl, refl, refl, refl, refl, refl)
+    (onward_none a.map a.w a.h (a.y * a.w) a.part.now a.marks.now c.requires.4, omega arith, refl, refl)
 
 pub warp_piece-requires : goal.warp_piece-requires
 warp_piece-requires c =
     let l = c.loop-x in
     let a = c.args in
-    let k = c.least-len.ensures in
+    let k = c.min-len.ensures in
     let i = l.invariant in
-    let f = c.requires.4 in
     let room = row_in a.w a.y a.h c.requires.1 in (
       c.requires.0,
       c.requires.1,
       omega (arith, k, i.1),
       omega (arith, i.2, c.requires.2),
       omega (arith, i.3, c.requires.3),
-      record {
-        spots_fit = omega (arith, k, i.4, f.spots_fit);
-        across_fit = omega (arith, k, i.5, f.across_fit);
-        down_fit = omega (arith, k, i.6, f.down_fit);
-        flags_fit = omega (arith, k, i.7, f.flags_fit);
-      },
+      omega (arith, k),
       onward_holding a.map a.w a.h (a.y * a.w) l.x 0 (omega (arith, room, i.1)) a.part.now a.marks.now (c.requires.2, c.requires.3) l.part l.marks i.0,
     )
-
-pub loop-x-smaller : goal.loop-x-smaller
-loop-x-smaller c = omega (arith, c.least-len.ensures)
 
 pub loop-x-preserved : goal.loop-x-preserved
 loop-x-preserved c =
@@ -42,21 +33,10 @@ loop-x-preserved c =
     let a = c.args in
     let i = l.invariant in
     let k = c.warp_piece.auto in
-    let few = c.least-len.ensures in
+    let few = c.min-len.ensures in
     let room = row_in a.w a.y a.h c.requires.1 in (
       onward_more a.map a.w a.h (a.y * a.w) l.x _ (omega (arith, room, i.1, few)) a.part.now a.marks.now (c.requires.2, c.requires.3) l.part l.marks i.0 _ _ c.warp_piece.ensures,
       omega (arith, few, i.1),
       k.part ∙ i.2,
       k.marks ∙ i.3,
-      k.spots ∙ i.4,
-      k.across ∙ i.5,
-      k.down ∙ i.6,
-      k.flags ∙ i.7,
     )
-
-pub returns : goal.returns
-returns c =
-    let l = c.loop-x in
-    let a = c.args in
-    let e : l.x ≡ a.w = omega (arith, l.invariant.1) in
-    rw e at l.invariant.0

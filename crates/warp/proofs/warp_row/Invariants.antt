@@ -7,7 +7,6 @@ use Rattle.warp.proofs.warp_row.Given as goal
 
 abbrev pub invariant-loop-x : goal.invariant-loop-x
 invariant-loop-x l = WarpedThrough l.map l.w l.h (l.y * l.w) l.x l.initial.part l.initial.marks l.part l.marks × (l.x ≤ l.w) × (length l.part ≡ length l.initial.part) × (length l.marks ≡ length l.initial.marks)
-    × (length l.spots ≡ length l.initial.spots) × (length l.across ≡ length l.initial.across) × (length l.down ≡ length l.initial.down) × (length l.flags ≡ length l.initial.flags)
 
 abbrev pub decreases-loop-x : goal.decreases-loop-x
 decreases-loop-x l = l.w - l.x

@@ -1,5 +1,5 @@
 -- `warp::warp_three_inverse_map` meets its contract: a row at a turn. Assumes nothing.
-use Prim.Native.Nat.{ℕ, ◌-◌, ◌*◌, ◌+◌, ◌<◌}
+use Prim.Native.Nat.{ℕ, ◌*◌, ◌+◌, ◌<◌}
 use mathlib.Core.Path.{◌≡◌, refl, sym, ap, ◌∙◌}
 use native.Mathlib.Nat.{mul-le-mul, mul_comm, zero-mul, zero-add}
 use native.Mathlib.Omega.{arith}
@@ -19,19 +19,7 @@ loop-y-init c =
     c.fill_words.ensures ∙ ap (λ (k : ℕ). put a.marks.now 0 (tab k (λ _. 0))) (omega arith) ∙ ap (put a.marks.now 0) (words_none (marks_of a.map a.w a.h) (a.w * a.h)) in
     let a = c.args in
     let h = holding a.map a.w a.h a.marks.now c.requires.2 0 _ cleared in
-    (rw (zero-mul a.w) (onward_none a.map a.w a.h 0 a.part.now _ h), omega arith, refl, refl, refl, refl, refl, refl)
-
-pub slice_bounds-warp_row-end : goal.slice_bounds-warp_row-end
-slice_bounds-warp_row-end c = sym c.loop-y.invariant.4
-
-pub slice_bounds-warp_row-end-in-loop-y : goal.slice_bounds-warp_row-end-in-loop-y
-slice_bounds-warp_row-end-in-loop-y c = sym c.loop-y.invariant.5
-
-pub slice_bounds-warp_row-end-in-loop-y-2 : goal.slice_bounds-warp_row-end-in-loop-y-2
-slice_bounds-warp_row-end-in-loop-y-2 c = sym c.loop-y.invariant.6
-
-pub slice_bounds-warp_row-end-in-loop-y-3 : goal.slice_bounds-warp_row-end-in-loop-y-3
-slice_bounds-warp_row-end-in-loop-y-3 c = sym c.loop-y.invariant.7
+    (rw (zero-mul a.w) (onward_none a.map a.w a.h 0 a.part.now _ h), refl, refl)
 
 pub warp_row-requires : goal.warp_row-requires
 warp_row-requires c =
@@ -42,9 +30,8 @@ warp_row-requires c =
     let taken : l.y < a.h = omega arith in (
       c.requires.0,
       taken,
-      omega (arith, i.2, c.requires.1),
-      omega (arith, i.3, size, c.requires.2),
-      record { spots_fit = omega (arith, i.4); across_fit = omega (arith, i.5); down_fit = omega (arith, i.6); flags_fit = omega (arith, i.7) },
+      omega (arith, i.1, c.requires.1),
+      omega (arith, i.2, size, c.requires.2),
       rw (zero-add (l.y * a.w)) at (onward_holding a.map a.w a.h 0 (l.y * a.w) 0 (omega (arith, row_in a.w l.y a.h taken)) a.part.now _ (c.requires.1, omega (arith, size, c.requires.2)) l.part l.marks i.0),
     )
 
@@ -58,30 +45,14 @@ loop-y-preserved c =
     let taken = c.loop-y-test.true in
     let next : l.y * a.w + a.w ≡ (l.y + 1) * a.w = omega arith in (
       rw (sym next) (onward_more a.map a.w a.h 0 (l.y * a.w) a.w (omega (arith, row_in a.w l.y a.h taken)) a.part.now _ (c.requires.1, omega (arith, size, c.requires.2)) l.part l.marks i.0 _ _ (rw (zero-add (l.y * a.w)) c.warp_row.ensures)),
-      omega arith,
-      k.part ∙ i.2,
-      k.marks ∙ i.3,
-      k.spots ∙ i.4,
-      k.across ∙ i.5,
-      k.down ∙ i.6,
-      k.flags ∙ i.7,
+      k.part ∙ i.1,
+      k.marks ∙ i.2,
     )
-
-pub marked_rows-rows-requires : goal.marked_rows-rows-requires
-marked_rows-rows-requires c =
-    let l = c.loop-y in
-    (c.requires.0, omega (arith, l.invariant.3, c.fill_words.auto.words, c.requires.2))
 
 pub count-count-requires : goal.count-count-requires
 count-count-requires c =
     let l = c.loop-y in
-    (omega (arith, l.invariant.3, c.fill_words.auto.words, c.requires.2), omega (arith, mul-le-mul c.requires.0.w_most c.requires.0.h_most))
-
-pub shape_of-part : goal.shape_of-part
-shape_of-part c = c.loop-y.invariant.2
-
-pub shape_of-marks : goal.shape_of-marks
-shape_of-marks c = c.loop-y.invariant.3 ∙ c.fill_words.auto.words
+    (omega (arith, l.invariant.2, c.fill_words.auto.words, c.requires.2), omega (arith, mul-le-mul c.requires.0.w_most c.requires.0.h_most))
 
 pub returns : goal.returns
 returns c =
@@ -90,5 +61,5 @@ returns c =
     c.fill_words.ensures ∙ ap (λ (k : ℕ). put a.marks.now 0 (tab k (λ _. 0))) (omega arith) ∙ ap (put a.marks.now 0) (words_none (marks_of a.map a.w a.h) (a.w * a.h)) in
     let l = c.loop-y in
     let a = c.args in
-    let e : l.y ≡ a.h = omega (arith, l.invariant.1) in
+    let e : l.y ≡ a.h = omega arith in
     onward_all a.map a.w a.h a.part.now l.part a.marks.now _ l.marks _ c.requires.2 cleared (rw (mul_comm a.w a.h) (rw e at l.invariant.0)) (c.count-count.ensures ∙ ap (ones_of l.marks) (omega arith)) c.marked_rows-rows.ensures
