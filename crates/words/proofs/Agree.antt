@@ -6,7 +6,7 @@ use mathlib.Core.List.{List, [], ◌∷◌}
 use native.Mathlib.Nat.{zero-add}
 use native.Mathlib.Omega.{arith}
 use lib.ListN.{length, get_or}
-use Rattle.std.specs.List.{list_all, enumerate_from}
+use Rattle.std.specs.List.{list_all, enumerate_from, range_with_len}
 use Rattle.words.specs.Words.{all_below}
 
 pub all_agree : (n : ℕ) (p q : ℕ → Bool) → ((i : ℕ) → i < n → p i ≡ q i) → all_below n p ≡ all_below n q
@@ -24,6 +24,19 @@ first : (n : ℕ) (p : ℕ → Bool) → all_below (suc n) p ≡ (p 0 && all_bel
 unfolding all_below
 first zero p = refl
 first (suc n) p = ap (λ (b : Bool). p (suc n) && b) (first n p) ∙ swap (p (suc n)) (p 0) (all_below n (λ i. p (suc i)))
+
+-- each number of a range
+each_in : (a n : ℕ) (p : ℕ → Bool) → list_all p (range_with_len a n) ≡ all_below n (λ i. p (a + i))
+unfolding all_below
+each_in a zero p = refl
+each_in a (suc n) p =
+    let here : a ≡ a + 0 = omega arith in
+    let next : (i : ℕ) → a + 1 + i ≡ a + suc i = λ i. omega arith in
+    ap₂ (λ (k : ℕ) (b : Bool). p k && b) here (each_in (a + 1) n p ∙ all_agree n _ _ (λ i h. ap p (next i)))
+    ∙ sym (first n (λ i. p (a + i)))
+
+pub each_below : (n : ℕ) (p : ℕ → Bool) → list_all p (range_with_len 0 n) ≡ all_below n p
+each_below n p = each_in 0 n p ∙ all_agree n _ _ (λ i h. ap p (zero-add i))
 
 module _ {A : Type 0} (p : ℕ × A → Bool) (d : A) where
   each_from : (n : ℕ) (xs : List A) → list_all p (enumerate_from n xs) ≡ all_below (length xs) (λ i. p (n + i, get_or xs i d))
