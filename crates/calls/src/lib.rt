@@ -22,7 +22,6 @@ const FRAMES: usize = 12;
 // A word of the marks before the call: each of its bits is set.
 const WORD_BEFORE: u64 = 0xffff_ffff_ffff_ffff;
 
-#[tactic(auto, unfolding(crate::specs::Calls::edge_at, lists::specs::Marked::pick))]
 fn edge_at(words: &[u64]) -> LongEdge
     ensures { result ≡ edge_at words.now }
 {
