@@ -51,8 +51,7 @@ fn put_decimal(out: &mut [u8], at: usize, n: u64, end: u8) -> usize
 pub fn size(n: i16) -> u64
     ensures { (result ≡ distance_of n) × (result ≤ 32768) }
 {
-    let m = n as i64;
-    if m < 0 { (0 - m) as u64 } else { m as u64 }
+    u64::from(n.unsigned_abs())
 }
 
 // n in decimal, with a sign where it is negative, and the byte that ends it.
