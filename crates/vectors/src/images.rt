@@ -1,5 +1,7 @@
 // The image stages: sides, resize, kernel, blur, gradients, prepared images. Images are small enough for local arrays.
-ghost use Rattle.std.specs.Prelude.{◌≡◌};
+ghost use Rattle.std.specs.Prelude.{◌≡◌, ℕ, ◌*◌, ◌≤◌, List, Float, length};
+ghost use Rattle.lists.specs.Lists.{image, set_image};
+ghost use Rattle.lists.specs.Premises.{InRange};
 ghost use Rattle.gradients.specs.Gradients.{gradient_x, gradient_y};
 ghost use Rattle.vectors.specs.Images.{sides_agree, resize_agrees, kernel_agrees, blur_agrees, gradient_agrees, prepared_agrees};
 
@@ -75,31 +77,33 @@ pub fn blurred(words: &[u64]) -> bool
     same_floats(words, 4 + s.n, s.n, &part, 2 * s.n)
 }
 
-// w, h, numbers; numbers.
-#[tactic(auto, unfolding(crate::specs::Images::gradient_agrees))]
+// w, h, numbers; numbers. `gradient` leaves its answer in the part's image k; what is ensured holds of any rule that it goes by.
+fn graded<G: FnOnce(&mut [f32], usize, usize)>(words: &[u64], k: usize, gradient: G) -> bool
+    requires place { (1 ≤ k) × (k ≤ 2) }
+    requires callable { (p : _) (w h : ℕ) → InRange w h → 3 * (w * h) ≤ length p.now → G.pre gradient p w h }
+    ensures { (rule : ℕ → ℕ → List Float → List Float) → ((w h : ℕ) (xs : List Float) → length (rule w h xs) ≡ w * h)
+        → ((p q : _) (w h : ℕ) (r : _) → G.post gradient p w h r q → q.now ≡ set_image (w * h) k (rule w h (image (w * h) 0 p.now)) p.now)
+        → result ≡ gradient_agrees rule words.now }
+{
+    let Some(s) = sides_at(words, 1) else {
+        return false;
+    };
+    let mut part = [0.0f32; 3072];
+    floats(words, 3, s.n, &mut part, 0);
+    gradient(&mut part, s.w, s.h);
+    same_floats(words, 3 + s.n, s.n, &part, k * s.n)
+}
+
 pub fn across(words: &[u64]) -> bool
     ensures { result ≡ gradient_agrees gradient_x words.now }
 {
-    let Some(s) = sides_at(words, 1) else {
-        return false;
-    };
-    let mut part = [0.0f32; 3072];
-    floats(words, 3, s.n, &mut part, 0);
-    gradients::gradient_x(&mut part, s.w, s.h);
-    same_floats(words, 3 + s.n, s.n, &part, s.n)
+    graded(words, 1, gradients::gradient_x)
 }
 
-#[tactic(auto, unfolding(crate::specs::Images::gradient_agrees))]
 pub fn down(words: &[u64]) -> bool
     ensures { result ≡ gradient_agrees gradient_y words.now }
 {
-    let Some(s) = sides_at(words, 1) else {
-        return false;
-    };
-    let mut part = [0.0f32; 3072];
-    floats(words, 3, s.n, &mut part, 0);
-    gradients::gradient_y(&mut part, s.w, s.h);
-    same_floats(words, 3 + s.n, s.n, &part, 2 * s.n)
+    graded(words, 2, gradients::gradient_y)
 }
 
 // w, h, the sides after, the kernel's size, bytes; numbers.
