@@ -1,7 +1,7 @@
 -- When a vector of a whole call agrees with the definitions: the answer, and what work and marks hold afterwards. Definitions only.
 -- The words: the kind; w, h; the lengths of both frames; eps, max_iter, the filter, whether there is an edge, the edge; how many floats and
 -- words of marks are lent; both frames; number, passes, theta, tx, ty, rho, the matrix; how many floats and words are cleared.
-use Rattle.std.specs.Prelude.{ℕ, ◌+◌, ◌%◌, Bool, ◌&&◌, not, List, [], ◌∷◌, leb, ltb, eqb, length, get_or, Float, None, Some, Option, Ok, Err}
+use Rattle.std.specs.Prelude.{ℕ, ◌+◌, ◌%◌, Bool, ◌&&◌, not, List, [], ◌∷◌, leb, ltb, eqb, length, get_or, Float, ◌≡◌, ◌≤◌, true, false, None, Some, Option, MatchOption, Ok, Err}
 use Rattle.std.specs.Float.{nan, binary32}
 use Rattle.std.specs.Float.Ieee.{neg, to_bits}
 use Rattle.lists.specs.Lists.{tab}
@@ -16,6 +16,7 @@ use Rattle.alignment.specs.Aligned.{aligned_of, work_after, marks_after}
 use Rattle.words.specs.Words.{stored_at, float_of, bytes_at, all_below, floats_agree}
 use Rattle.inverse.specs.Inverse.{entries_of}
 use Rattle.std.specs.Result.{result_ok}
+use Rattle.calls.specs.declared.Lengths.{Lengths}
 
 -- the settings, from the word 5 on; an edge stands behind a word that is not 0
 unfoldable pub edge_at : List ℕ → Option ℕ
@@ -66,6 +67,26 @@ answer_from words = 12 + stored_at words 3 + stored_at words 4
 -- the lengths fit the arrays of the test, and the line ends with the answer's words
 unfoldable pub is_whole : List ℕ → Bool
 is_whole words = leb (stored_at words 3) 4200 && leb (stored_at words 4) 4200 && leb (stored_at words 10) 50000 && leb (stored_at words 11) 80 && eqb (length words) (answer_from words + 17)
+
+-- r is v where v is at most `most`, else none
+abbrev pub LengthAt : ℕ → ℕ → Option ℕ → Type 0
+LengthAt v most r = MatchOption r (leb v most ≡ false) (λ n. (n ≡ v) × (leb v most ≡ true) × (n ≤ most))
+
+-- the lengths of a line that is whole
+pub record Whole (words : List ℕ) (n : Lengths) : Type 0 where
+  pub is : is_whole words ≡ true
+  pub template : n.template ≡ stored_at words 3
+  pub input : n.input ≡ stored_at words 4
+  pub work : n.work ≡ stored_at words 10
+  pub marks : n.marks ≡ stored_at words 11
+  pub template_fits : n.template ≤ 4200
+  pub input_fits : n.input ≤ 4200
+  pub work_fits : n.work ≤ 50000
+  pub marks_fit : n.marks ≤ 80
+
+-- the lengths of the line, or none where it is not whole
+abbrev pub WholeOrNone : List ℕ → Option Lengths → Type 0
+WholeOrNone words r = MatchOption r (is_whole words ≡ false) (Whole words)
 
 unfoldable pub call_agrees : List ℕ → Bool
 call_agrees words =

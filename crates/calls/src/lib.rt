@@ -7,12 +7,13 @@ ghost use Rattle.lists.specs.Lists.{tab};
 ghost use Rattle.lists.specs.Marked.{pick};
 ghost use Rattle.floats.specs.F32.{0f};
 ghost use Rattle.words.specs.Words.{stored_at};
-ghost use Rattle.calls.specs.Calls.{edge_at, settings_at, float_before, word_before, work_agrees, marks_agree, answer_agrees, outcome_agrees, called_agrees, is_whole, call_agrees};
+ghost use Rattle.calls.specs.Calls.{edge_at, settings_at, float_before, word_before, work_agrees, marks_agree, answer_agrees, outcome_agrees, called_agrees, LengthAt, WholeOrNone, call_agrees};
 ghost use Rattle.calls.specs.Pins.{pin_agrees, answer_at, pins_agree, calls_agree};
 
 use pose::{Answer, Outcome, Posed};
 use refusals::Refusal;
 use settings::EccConfig;
+use vectors::Kind;
 use words::{bytes, float, same_floats, word};
 
 // Where the frames' bytes begin.
@@ -30,6 +31,7 @@ fn edge_at(words: &[u64]) -> Option<usize>
     Some(word(words, 9) as usize)
 }
 
+#[tactic(auto, unfolding(crate::specs::Calls::settings_at))]
 fn settings_at(words: &[u64]) -> EccConfig
     ensures { result ≡ settings_at words.now }
 {
@@ -43,77 +45,52 @@ fn settings_at(words: &[u64]) -> EccConfig
 }
 
 // What stands at a place of the work before the call: no zero of the sign that clearing writes.
+#[tactic(auto, unfolding(crate::specs::Calls::float_before, lists::specs::Marked::pick))]
 fn float_before(i: usize) -> f32
     ensures { result ≡ float_before i }
 {
     if i % 3 == 0 { -0.0 } else { 1.0 }
 }
 
-// What is to stand there afterwards: +0 in the first `zeros` places, else what stood there.
-fn float_after(i: usize, zeros: u64) -> f32
-    ensures { result ≡ pick (ltb i zeros) 0f (float_before i) }
+// What is to stand at a place afterwards: `cleared` in the first `zeros` places, else what stood there.
+#[tactic(auto, unfolding(lists::specs::Marked::pick))]
+fn after<T: Copy>(i: usize, zeros: u64, cleared: T, before: T) -> T
+    ensures { result ≡ pick (ltb i zeros) cleared before }
 {
-    if (i as u64) < zeros {
-        return 0.0;
-    }
-    float_before(i)
+    if (i as u64) < zeros { cleared } else { before }
 }
 
 fn fill_work(work: &mut [f32])
     ensures { work.new ≡ tab (length work.old) float_before }
 {
-    let mut i = 0;
-    while i < work.len() {
-        work[i] = float_before(i);
-        i += 1;
+    for (i, x) in work.iter_mut().enumerate() {
+        *x = float_before(i);
     }
 }
 
 fn fill_marks(marks: &mut [u64])
     ensures { marks.new ≡ tab (length marks.old) (λ _. word_before) }
 {
-    let mut i = 0;
-    while i < marks.len() {
-        marks[i] = WORD_BEFORE;
-        i += 1;
-    }
+    marks.fill(WORD_BEFORE);
 }
 
 // Whether the first `zeros` floats are +0 and the rest stayed.
 fn work_agrees(work: &[f32], zeros: u64) -> bool
     ensures { result ≡ work_agrees zeros work.now }
 {
-    let mut all = true;
-    let mut i = 0;
-    while i < work.len() {
-        if numbers::to_bits(work[i]) != numbers::to_bits(float_after(i, zeros)) {
-            all = false;
-        }
-        i += 1;
-    }
-    all
-}
-
-// What is to be at a place of the words afterwards.
-fn word_after(i: usize, zeros: u64) -> u64
-    ensures { result ≡ pick (ltb i zeros) 0 word_before }
-{
-    if (i as u64) < zeros { 0 } else { WORD_BEFORE }
+    work.iter().enumerate().all(|(i, x)| {
+        numbers::to_bits(*x) == numbers::to_bits(after(i, zeros, 0.0, float_before(i)))
+    })
 }
 
 // Whether the first `zeros` words are 0 and the rest stayed.
 fn marks_agree(marks: &[u64], zeros: u64) -> bool
     ensures { result ≡ marks_agree zeros marks.now }
 {
-    let mut all = true;
-    let mut i = 0;
-    while i < marks.len() {
-        if marks[i] != word_after(i, zeros) {
-            all = false;
-        }
-        i += 1;
-    }
-    all
+    marks
+        .iter()
+        .enumerate()
+        .all(|(i, x)| *x == after(i, zeros, 0, WORD_BEFORE))
 }
 
 // The number of a refusal, from the word `at` on, and zeros for its pose.
@@ -121,10 +98,7 @@ fn refused(words: &[u64], at: usize, refusal: Refusal) -> bool
     requires { at ≤ 8412 }
     ensures { result ≡ answer_agrees words.now at (Err refusal) }
 {
-    if word(words, at) != (refusal.number() as u64) {
-        return false;
-    }
-    same_floats(words, at + 2, 4, &[0.0, 0.0, 0.0, 0.0], 0)
+    word(words, at) == u64::from(refusal.number()) && same_floats(words, at + 2, 4, &[0.0; 4], 0)
 }
 
 // The number 0, from the word `at` on, and the four numbers of a pose.
@@ -132,10 +106,7 @@ fn posed(words: &[u64], at: usize, p: Posed) -> bool
     requires { at ≤ 8412 }
     ensures { result ≡ answer_agrees words.now at (Ok p) }
 {
-    if word(words, at) != 0 {
-        return false;
-    }
-    same_floats(words, at + 2, 4, &[p.theta, p.tx, p.ty, p.rho], 0)
+    word(words, at) == 0 && same_floats(words, at + 2, 4, &[p.theta, p.tx, p.ty, p.rho], 0)
 }
 
 fn answer_agrees(words: &[u64], at: usize, a: Answer) -> bool
@@ -149,6 +120,7 @@ fn answer_agrees(words: &[u64], at: usize, a: Answer) -> bool
 }
 
 // Number, passes, pose and matrix, from the word `at` on.
+#[tactic(auto, unfolding(crate::specs::Calls::outcome_agrees))]
 fn outcome_agrees(words: &[u64], at: usize, out: Outcome) -> bool
     requires { at ≤ 8412 }
     ensures { result ≡ outcome_agrees words.now at out }
@@ -158,16 +130,13 @@ fn outcome_agrees(words: &[u64], at: usize, out: Outcome) -> bool
     let entries = [
         m.m00, m.m01, m.m02, m.m10, m.m11, m.m12, m.m20, m.m21, m.m22,
     ];
-    if (out.passes as u64) != word(words, at + 1) {
-        return false;
-    }
-    if !same_floats(words, at + 6, 9, &entries, 0) {
-        return false;
-    }
-    answer_agrees(words, at, a)
+    out.passes as u64 == word(words, at + 1)
+        && same_floats(words, at + 6, 9, &entries, 0)
+        && answer_agrees(words, at, a)
 }
 
 // The call itself, by slices of the lengths that the vector says; the answer stands from the word `at` on.
+#[tactic(auto, unfolding(crate::specs::Calls::called_agrees))]
 fn called(
     words: &[u64],
     at: usize,
@@ -190,82 +159,83 @@ fn called(
         work,
         marks,
     );
-    if !outcome_agrees(words, at, out) {
-        return false;
-    }
-    if !work_agrees(work, word(words, at + 15)) {
-        return false;
-    }
-    marks_agree(marks, word(words, at + 16))
+    outcome_agrees(words, at, out)
+        && work_agrees(work, word(words, at + 15))
+        && marks_agree(marks, word(words, at + 16))
 }
 
-// A length, or 0 where the word is more than the room.
-fn length_at(words: &[u64], i: usize, room: usize) -> usize
-    ensures { (result ≤ room) × (result ≡ pick (leb (stored_at words.now i) room) (stored_at words.now i) 0) }
-{
-    let v = word(words, i);
-    if v <= (room as u64) { v as usize } else { 0 }
+// The bytes of both frames, and how many floats and words of marks are lent.
+#[derive(Clone, Copy)]
+struct Lengths {
+    template: usize,
+    input: usize,
+    work: usize,
+    marks: usize,
 }
 
-// Whether the lengths fit the arrays below, and the line ends with the answer's words.
-fn is_whole(words: &[u64]) -> bool
-    ensures { result ≡ is_whole words.now }
+// A length up to `most`.
+fn length_at(words: &[u64], i: usize, most: usize) -> Option<usize>
+    ensures { LengthAt (stored_at words.now i) most result }
 {
-    let t = word(words, 3);
-    let i = word(words, 4);
-    if t > 4200 {
-        return false;
+    let n = word(words, i);
+    if n <= most as u64 {
+        Some(n as usize)
+    } else {
+        None
     }
-    if i > 4200 {
-        return false;
+}
+
+// The lengths, where they fit the arrays below and the line ends with the answer's words.
+#[tactic(auto, unfolding(crate::specs::Calls::is_whole))]
+fn lengths_at(words: &[u64]) -> Option<Lengths>
+    ensures { WholeOrNone words.now result }
+{
+    let lengths = Lengths {
+        template: length_at(words, 3, 4200)?,
+        input: length_at(words, 4, 4200)?,
+        work: length_at(words, 10, 50000)?,
+        marks: length_at(words, 11, 80)?,
+    };
+    if words.len() != FRAMES + lengths.template + lengths.input + 17 {
+        return None;
     }
-    if word(words, 10) > 50000 {
-        return false;
-    }
-    if word(words, 11) > 80 {
-        return false;
-    }
-    words.len() as u64 == 12 + t + i + 17
+    Some(lengths)
 }
 
 // Sides, lengths, settings, frames; the answer, and how much is cleared.
+#[tactic(auto, unfolding(crate::specs::Calls::call_agrees))]
 fn call_agrees(words: &[u64]) -> bool
     ensures { result ≡ call_agrees words.now }
 {
-    if !is_whole(words) {
+    let Some(n) = lengths_at(words) else {
         return false;
-    }
-    let t = length_at(words, 3, 4200);
-    let i = length_at(words, 4, 4200);
-    let k = length_at(words, 10, 50000);
-    let m = length_at(words, 11, 80);
+    };
     let mut template = [0u8; 4200];
     let mut input = [0u8; 4200];
     let mut work = [0.0f32; 50000];
     let mut marks = [0u64; 80];
     bytes(words, FRAMES, &mut template);
-    bytes(words, FRAMES + t, &mut input);
+    bytes(words, FRAMES + n.template, &mut input);
     called(
         words,
-        FRAMES + t + i,
-        &template[..t],
-        &input[..i],
-        &mut work[..k],
-        &mut marks[..m],
+        FRAMES + n.template + n.input,
+        &template[..n.template],
+        &input[..n.input],
+        &mut work[..n.work],
+        &mut marks[..n.marks],
     )
 }
 
 // A driver number, told by whether it is below 0 and by its distance to 0.
+#[tactic(auto, unfolding(crate::specs::Pins::pin_agrees))]
 fn pin_agrees(v: i16, below: u64, size: u64) -> bool
     ensures { result ≡ pin_agrees v below size }
 {
-    if v < 0 {
-        return below == 1 && text::size(v) == size;
-    }
-    below == 0 && text::size(v) == size
+    below == u64::from(v < 0) && text::size(v) == size
 }
 
 // The pose of the answer with a number, theta, tx, ty: none where the number is not 0.
+#[tactic(auto, unfolding(crate::specs::Pins::answer_at, lists::specs::Marked::pick))]
 fn answer_at(words: &[u64]) -> Option<Posed>
     ensures { result ≡ answer_at words.now }
 {
@@ -282,6 +252,7 @@ fn answer_at(words: &[u64]) -> Option<Posed>
 }
 
 // The answer, the sides; dx, dy and turn.
+#[tactic(auto, unfolding(crate::specs::Pins::pins_agree))]
 fn pins_agree(words: &[u64]) -> bool
     ensures { result ≡ pins_agree words.now }
 {
@@ -290,21 +261,21 @@ fn pins_agree(words: &[u64]) -> bool
         word(words, 5) as usize,
         word(words, 6) as usize,
     );
-    if !pin_agrees(pins.dx, word(words, 7), word(words, 8)) {
-        return false;
-    }
-    if !pin_agrees(pins.dy, word(words, 9), word(words, 10)) {
-        return false;
-    }
-    pin_agrees(pins.turn, word(words, 11), word(words, 12))
+    pin_agrees(pins.dx, word(words, 7), word(words, 8))
+        && pin_agrees(pins.dy, word(words, 9), word(words, 10))
+        && pin_agrees(pins.turn, word(words, 11), word(words, 12))
 }
 
+#[tactic(auto, unfolding(crate::specs::Pins::calls_agree, lists::specs::Marked::pick))]
 pub fn agrees(kind: u64, words: &[u64]) -> bool
     ensures { result ≡ calls_agree kind words.now }
 {
+    let Ok(kind) = Kind::try_from(kind) else {
+        return false;
+    };
     match kind {
-        26 => call_agrees(words),
-        27 => pins_agree(words),
+        Kind::Call => call_agrees(words),
+        Kind::Pins => pins_agree(words),
         _ => false,
     }
 }

@@ -5,123 +5,74 @@
 #![tactic(auto)]
 
 use std::io::Read;
+use vectors::Kind;
 use words::Line;
 
+// How many vectors of a kind there were, and how many of them agreed.
+#[derive(Clone, Copy)]
+struct Tally {
+    seen: u64,
+    agreed: u64,
+}
+
 fn agrees(kind: u64, words: &[u64]) -> bool {
-    match kind {
-        26 => calls::agrees(kind, words),
-        27 => calls::agrees(kind, words),
+    match Kind::try_from(kind) {
+        Ok(Kind::Call | Kind::Pins) => calls::agrees(kind, words),
         _ => vectors::agrees(words),
     }
 }
 
-// Counts the vector that the first n words hold, by its kind.
-fn judge(words: &[u64], n: usize, seen: &mut [u64], agreed: &mut [u64]) {
-    if n == 0 {
-        return;
-    }
-    if n > words.len() {
-        return;
-    }
-    let kind = words[0];
-    count(seen, kind);
-    if agrees(kind, &words[..n]) {
-        count(agreed, kind);
-    }
-}
-
-// One more of a kind.
-fn count(of: &mut [u64], kind: u64) {
-    let k = (kind % 64) as usize;
-    if k < of.len() {
-        of[k] = of[k].wrapping_add(1);
+// Counts a vector by its kind. A line with no word is none.
+fn judge(vector: &[u64], tallies: &mut [Tally; 64]) {
+    if let Some(&kind) = vector.first() {
+        let tally = &mut tallies[(kind % 64) as usize];
+        tally.seen = tally.seen.wrapping_add(1);
+        if agrees(kind, vector) {
+            tally.agreed = tally.agreed.wrapping_add(1);
+        }
     }
 }
 
 // Takes one byte: a line's end has its vector judged.
-fn byte(b: u8, words: &mut [u64], seen: &mut [u64], agreed: &mut [u64], line: Line) -> Line {
+fn byte(b: u8, words: &mut [u64], tallies: &mut [Tally; 64], line: Line) -> Line {
     if b == b'\n' {
         let end = line.closed(words);
-        judge(words, end.count, seen, agreed);
+        if let Some(vector) = words.get(..end.count) {
+            judge(vector, tallies);
+        }
         return Line::new();
     }
     line.with(words, b)
 }
 
 // Takes the bytes of one read.
-fn take(bytes: &[u8], words: &mut [u64], seen: &mut [u64], agreed: &mut [u64], line: Line) -> Line {
-    let mut at = line;
-    let mut i = 0;
-    while i < bytes.len() {
-        at = byte(bytes[i], words, seen, agreed, at);
-        i += 1;
+fn take(bytes: &[u8], words: &mut [u64], tallies: &mut [Tally; 64], mut line: Line) -> Line {
+    for b in bytes {
+        line = byte(*b, words, tallies, line);
     }
-    at
+    line
 }
 
 // How many vectors of a kind there were and how many agreed, as a line. A write that fails is not told of.
-fn report(rt: &HostRuntime, name: &str, k: usize, seen: &[u64], agreed: &[u64]) {
-    if k < seen.len() {
-        if k < agreed.len() {
-            let good = agreed[k];
-            let all = seen[k];
-            let _ = println!(rt; "{name}: {good} of {all} agree");
-        }
-    }
-}
-
-fn report_helpers(rt: &HostRuntime, seen: &[u64], agreed: &[u64]) {
-    report(rt, "sqrt", 1, seen, agreed);
-    report(rt, "cos", 2, seen, agreed);
-    report(rt, "sin", 3, seen, agreed);
-    report(rt, "exp_neg", 4, seen, agreed);
-    report(rt, "floor", 5, seen, agreed);
-    report(rt, "round", 6, seen, agreed);
-    report(rt, "abs", 7, seen, agreed);
-    report(rt, "is_finite", 8, seen, agreed);
-    report(rt, "to_f32", 9, seen, agreed);
-    report(rt, "as_usize", 10, seen, agreed);
-}
-
-fn report_images(rt: &HostRuntime, seen: &[u64], agreed: &[u64]) {
-    report(rt, "resized sides", 16, seen, agreed);
-    report(rt, "resize_bilinear", 17, seen, agreed);
-    report(rt, "gaussian_kernel", 18, seen, agreed);
-    report(rt, "gaussian_blur_separable", 19, seen, agreed);
-    report(rt, "gradient_x", 20, seen, agreed);
-    report(rt, "gradient_y", 21, seen, agreed);
-    report(rt, "prepared images", 22, seen, agreed);
-}
-
-fn report_passes(rt: &HostRuntime, seen: &[u64], agreed: &[u64]) {
-    report(rt, "warp_three_inverse_map", 23, seen, agreed);
-    report(rt, "centered_stats_in_place", 24, seen, agreed);
-    report(rt, "try_inverse", 25, seen, agreed);
-    report(rt, "whole calls", 26, seen, agreed);
-    report(rt, "driver numbers", 27, seen, agreed);
-    report(rt, "marked rows", 28, seen, agreed);
+fn report(rt: &HostRuntime, kind: Kind, tally: Tally) {
+    let Tally { seen, agreed } = tally;
+    let _ = println!(rt; "{kind}: {agreed} of {seen} agree");
 }
 
 fn main(rt: HostRuntime) {
     let mut bytes = [0u8; 65536];
-    let mut held = [0u64; 8300];
-    let mut seen_all = [0u64; 64];
-    let mut agreed_all = [0u64; 64];
-    let buf: &mut [u8] = &mut bytes;
-    let words: &mut [u64] = &mut held;
-    let seen: &mut [u64] = &mut seen_all;
-    let agreed: &mut [u64] = &mut agreed_all;
+    let mut words = [0u64; 8300];
+    let mut tallies = [Tally { seen: 0, agreed: 0 }; 64];
     let mut line = Line::new();
     let mut input = rt.stdin();
     // A proved loop has to end, and nothing says that the input does: there are no more reads than a number that no run uses up.
     for _ in 0..u64::MAX {
-        match input.read(buf) {
-            Ok(0) => break,
-            Ok(n) => line = take(&buf[..n], words, seen, agreed, line),
-            Err(_) => break,
+        match input.read(&mut bytes) {
+            Ok(0) | Err(_) => break,
+            Ok(n) => line = take(&bytes[..n], &mut words, &mut tallies, line),
         }
     }
-    report_helpers(&rt, seen, agreed);
-    report_images(&rt, seen, agreed);
-    report_passes(&rt, seen, agreed);
+    for kind in Kind::ALL {
+        report(&rt, kind, tallies[kind as usize]);
+    }
 }

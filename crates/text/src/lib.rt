@@ -7,16 +7,14 @@ ghost use Rattle.std.specs.Prelude.{◌≡◌, [], ◌∷◌, ◌++◌, ◌+◌,
 ghost use Rattle.text.specs.Text.{decimal_of, distance_of, signed_of, frame_line, end_line, Wrote};
 
 // The bytes of src.
+#[tactic(auto, unfolding(lists::specs::Lists::put))]
 fn put_bytes(out: &mut [u8], at: usize, src: &[u8]) -> usize
     requires { at + length src.now ≤ length out.old }
     ensures { Wrote out.old at src.now (length src.now) out.new result }
 {
-    let mut i = 0;
-    while i < src.len() {
-        out[at + i] = src[i];
-        i += 1;
-    }
-    at + i
+    let end = at + src.len();
+    out[at..end].copy_from_slice(src);
+    end
 }
 
 // One byte.
@@ -51,8 +49,7 @@ fn put_decimal(out: &mut [u8], at: usize, n: u64, end: u8) -> usize
 pub fn size(n: i16) -> u64
     ensures { (result ≡ distance_of n) × (result ≤ 32768) }
 {
-    let m = n as i64;
-    if m < 0 { (0 - m) as u64 } else { m as u64 }
+    u64::from(n.unsigned_abs())
 }
 
 // n in decimal, with a sign where it is negative, and the byte that ends it.

@@ -1,3 +1,4 @@
+mod Asked
 pub mod Tests
 pub mod Runs
 pub mod Sides

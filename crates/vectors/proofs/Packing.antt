@@ -4,7 +4,7 @@ use mathlib.Core.Path.{◌≡◌, refl, sym, ap, ap₂, ◌∙◌}
 use mathlib.Core.List.{List}
 use native.Mathlib.Nat.{zero-add}
 use native.Mathlib.Omega.{arith}
-use mir.Val.{bool_byte}
+use Rattle.std.specs.Int.{from_bool}
 use lib.Dec.{eqb}
 use lib.ListN.{length, get_or}
 use Rattle.lists.specs.Lists.{tab, put}
@@ -17,14 +17,14 @@ use Rattle.bits.proofs.Packing.{flags_on, flags_are}
 use Rattle.bits.proofs.Equal.{words_none, words_all}
 
 -- a bit that is read, as a byte
-pub bit_byte : (ws : List ℕ) (i : ℕ) → bool_byte (eqb (bit_at ws i) 1) ≡ bit_at ws i
+pub bit_byte : (ws : List ℕ) (i : ℕ) → from_bool (eqb (bit_at ws i) 1) ≡ bit_at ws i
 unfolding bit_at
 bit_byte ws i = by (bit_at ws i) (few ws i)
   where
     few : (ws : List ℕ) (i : ℕ) → bit_at ws i ≤ 1
     few ws i = omega arith
 
-    by : (b : ℕ) → b ≤ 1 → bool_byte (eqb b 1) ≡ b
+    by : (b : ℕ) → b ≤ 1 → from_bool (eqb b 1) ≡ b
     by zero l = refl
     by (suc zero) l = refl
     by (suc (suc b)) l = absurd (many b l)

@@ -1,7 +1,7 @@
 -- The parts of a pass: what the code compares is what the definitions give. Assumes nothing.
 use Rattle.std.specs.Prelude.{Option}
 use Prim.Native.Nat.{ℕ, ◌+◌, ◌*◌, ◌≤◌, ◌<◌}
-use mathlib.Core.Bool.{Bool, true, not, ◌&&◌}
+use mathlib.Core.Bool.{Bool, not, ◌&&◌}
 use mathlib.Core.Path.{◌≡◌, sym, ap, ap₂, ◌∙◌}
 use mathlib.Core.List.{List, ◌++◌}
 use native.Mathlib.Nat.{mul_comm}
@@ -37,7 +37,7 @@ use Rattle.vectors.specs.Passes.{map_at, warp_agrees, image_at, template_at, nor
 use Rattle.vectors.specs.declared.shapes.Shape.{Shape}
 use Rattle.vectors.proofs.Tests.{and_passed}
 use Rattle.vectors.proofs.Runs.{length_floats, image_floats, three_images}
-use Rattle.vectors.proofs.Stages.{shaped, pixels_are}
+use Rattle.vectors.proofs.Stages.{pixels_are}
 use Rattle.vectors.proofs.Marked.{count_same, centred_same, stats_same, marked_same}
 use Rattle.rows.specs.declared.Rows.{Rows}
 
@@ -65,12 +65,12 @@ module _ (n : ℕ) (ys a b c : List Float) (room : 6 * n ≤ length ys) (a_long 
       (image_set n 5 two c c_long (omega (arith, length_two))))
 
 -- w, h, the map, three images: the warped ones follow, then marks, which come back from their words as bytes, then their count
-pub warp_told : (words : List ℕ) {s : Shape} (f : Fitting (stored_at words 1) (stored_at words 2) s) → s.ok ≡ true →
+pub warp_told : (words : List ℕ) {s : Shape} (f : Fitting (stored_at words 1) (stored_at words 2) s) →
     (map : Map) (xs ys zs : List Float) (ws vs ms ns : List ℕ) (found : Found) → 6 * s.n ≤ length xs → words_for s.n ≤ length ws → ys ≡ put xs 0 (floats_at words 9 (3 * s.n)) → map ≡ map_at words 3 →
     Warped map s.w s.h ys ws zs vs found → ns ≡ put ms 0 (unpacked_of vs s.n) →
     (floats_agree words (9 + 3 * s.n) (take (3 * s.n) (drop (3 * s.n) zs)) && bytes_agree words (9 + 6 * s.n) (take s.n ns) && eqb found.count (stored_at words (9 + 7 * s.n))) ≡ warp_agrees words
 unfolding warp_agrees BytesBack
-warp_told words {s} f ok map xs ys zs ws vs ms ns found room held e m warped told =
+warp_told words {s} f map xs ys zs ws vs ms ns found room held e m warped told =
     let n = s.n in
     let p : s.w * s.h ≡ n = sym f.pixels in
     let fits : 0 + length (floats_at words 9 (3 * n)) ≤ length xs = omega (arith, length_floats words 9 (3 * n)) in
@@ -85,10 +85,10 @@ warp_told words {s} f ok map xs ys zs ws vs ms ns found room held e m warped tol
     let back : unpacked_of vs n ≡ marks_of map s.w s.h = ap (λ (z : List ℕ). unpacked_of z n) (rw p at warped.marked) ∙ bytes_back (marks_of map s.w s.h) ws n held k (rw p at (mark_few map s.w s.h)) in
     let marks : take n ns ≡ marks_of map s.w s.h = ap (take n) (told ∙ ap (put ms 0) back) ∙ take_put_front ms _ n k in
     let count = rw p at warped.counted in
-    let wide = f.w_is ok in
-    let high = f.h_is ok in
-    let all = pixels_are f ok in
-    and_passed (shaped f ok) cc
+    let wide = f.w_is in
+    let high = f.h_is in
+    let all = pixels_are f in
+    and_passed f.is cc
 
 -- ---- pixels, marks, image, template: the centred images follow, then the norms
 abbrev agreed_at : List ℕ → ℕ → Bool
@@ -112,18 +112,18 @@ module _ (words : List ℕ) (at n : ℕ) (few : n ≤ 1024) (ms os ws : List ℕ
   both_same i h = packed_same i h ∙ stored_same i h
 
 -- ---- w, h, marks: the rows that hold one follow
-pub rows_told_lem : (words : List ℕ) {s : Shape} (f : Fitting (stored_at words 1) (stored_at words 2) s) → s.ok ≡ true → (ms os ws : List ℕ) → ms ≡ bytes_at words 3 1024 → words_for s.n ≤ length os →
+pub rows_told_lem : (words : List ℕ) {s : Shape} (f : Fitting (stored_at words 1) (stored_at words 2) s) → (ms os ws : List ℕ) → ms ≡ bytes_at words 3 1024 → words_for s.n ≤ length os →
     ws ≡ put os 0 (words_of ms s.n) → (q : Option Rows) → q ≡ marked_rows_of (unpacked_of ws (s.w * s.h)) s.w s.h → rows_told words (3 + s.n) q ≡ rows_agree words
 unfolding rows_agree
-rows_told_lem words {s} f ok ms os ws m held w q e =
+rows_told_lem words {s} f ms os ws m held w q e =
     let p = f.pixels in
     let same = both_same words 3 s.n f.few ms os ws m held w in
     let rows : q ≡ marked_rows_of (bytes_at words 3 s.n) s.w s.h =
     e ∙ ap (λ (n : ℕ). marked_rows_of (unpacked_of ws n) s.w s.h) (sym p) ∙ rows_agree_lem (unpacked_of ws s.n) s.w (bytes_at words 3 s.n) s.h (λ i l. same i (omega (arith, p, mul_comm s.h s.w))) in
-    let wide = f.w_is ok in
-    let high = f.h_is ok in
-    let all = pixels_are f ok in
-    and_passed (shaped f ok) cc
+    let wide = f.w_is in
+    let high = f.h_is in
+    let all = pixels_are f in
+    and_passed f.is cc
 
 module _ (words : List ℕ) (n : ℕ) (few : n ≤ 1024) (ms os ws : List ℕ) (m : ms ≡ bytes_at words 2 1024) (held : words_for n ≤ length os) (w : ws ≡ put os 0 (words_of ms n)) where
   abbrev packed_as : (i : ℕ) → i < n → on (unpacked_of ws n) i ≡ on ms i

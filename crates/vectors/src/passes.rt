@@ -6,7 +6,7 @@ ghost use Rattle.marks.specs.Marks.{on};
 ghost use Rattle.bits.specs.Words.{words_of, unpacked_of};
 ghost use Rattle.bits.specs.Packing.{flag_of};
 ghost use Rattle.words.specs.Words.{stored_at, floats_agree, bytes_agree};
-ghost use Rattle.vectors.specs.Passes.{map_at, matrix_at, warp_agrees, marked_agree, rows_told, rows_agree, norms_of, stats_agree, inverse_agrees, pass_agrees};
+ghost use Rattle.vectors.specs.Passes.{map_at, matrix_at, warp_agrees, marked_agree, rows_told, rows_agree, norms_of, stats_agree, inverse_agrees};
 
 use crate::shapes::sides_at;
 use inverse::Matrix3;
@@ -14,6 +14,7 @@ use rows::Rows;
 use words::{bytes, float, floats, same, same_bytes, same_floats, word};
 
 // The first two rows of a matrix, from the word i on.
+#[tactic(auto, unfolding(crate::specs::Passes::map_at))]
 fn map_at(words: &[u64], i: usize) -> pose::Map
     requires { i ≤ 8 }
     ensures { result ≡ map_at words.now i }
@@ -33,10 +34,9 @@ fn told(words: &[u64], n: usize, part: &[f32], marks: &[u8], found: usize) -> bo
     requires { (n ≤ 1024) × (6 * n ≤ length part.now) × (n ≤ length marks.now) }
     ensures { result ≡ (floats_agree words.now (9 + 3 * n) (take (3 * n) (drop (3 * n) part.now)) && bytes_agree words.now (9 + 6 * n) (take n marks.now) && eqb found (stored_at words.now (9 + 7 * n))) }
 {
-    if !same_floats(words, 9 + 3 * n, 3 * n, part, 3 * n) {
-        return false;
-    }
-    same_bytes(words, 9 + 6 * n, n, marks) && found as u64 == word(words, 9 + 7 * n)
+    same_floats(words, 9 + 3 * n, 3 * n, part, 3 * n)
+        && same_bytes(words, 9 + 6 * n, n, marks)
+        && found as u64 == word(words, 9 + 7 * n)
 }
 
 // The first n marks of the words, a byte each.
@@ -44,21 +44,19 @@ fn unpacked(marks: &[u64], n: usize, out: &mut [u8])
     requires { (n ≤ 1024) × (words_for n ≤ length marks.now) × (n ≤ length out.old) }
     ensures { out.new ≡ put out.old 0 (unpacked_of marks.now n) }
 {
-    let mut i = 0;
-    while i < n {
-        out[i] = bits::is_marked(marks, i) as u8;
-        i += 1;
+    for i in 0..n {
+        out[i] = u8::from(bits::is_marked(marks, i));
     }
 }
 
 // w, h, the map, three images; three images, marks, their count. What the words of marks held before does not matter.
-fn warped(words: &[u64]) -> bool
+#[tactic(auto, unfolding(crate::specs::Passes::warp_agrees))]
+pub fn warped(words: &[u64]) -> bool
     ensures { result ≡ warp_agrees words.now }
 {
-    let s = sides_at(words, 1);
-    if !s.ok {
+    let Some(s) = sides_at(words, 1) else {
         return false;
-    }
+    };
     let n = s.n;
     let mut part = [1.0f32; 6144];
     let mut marks = [0xffff_ffff_ffff_ffffu64; 16];
@@ -74,10 +72,8 @@ fn flagged(marks: &[u8], n: usize, flags: &mut [u32])
     requires { (n ≤ length marks.now) × (n ≤ length flags.old) }
     ensures { flags.new ≡ put flags.old 0 (tab n (λ i. flag_of (on marks.now i) i)) }
 {
-    let mut i = 0;
-    while i < n {
+    for i in 0..n {
         flags[i] = bits::flag(marks[i] != 0, i);
-        i += 1;
     }
 }
 
@@ -107,13 +103,13 @@ fn rows_told(words: &[u64], i: usize, rows: Option<Rows>) -> bool
 }
 
 // w, h, marks; the first and the last row that hold one. What the words of marks held before does not matter.
-fn rows_marked(words: &[u64]) -> bool
+#[tactic(auto, unfolding(crate::specs::Passes::rows_agree))]
+pub fn rows_marked(words: &[u64]) -> bool
     ensures { result ≡ rows_agree words.now }
 {
-    let s = sides_at(words, 1);
-    if !s.ok {
+    let Some(s) = sides_at(words, 1) else {
         return false;
-    }
+    };
     let mut stored = [0u8; 1024];
     let mut marks = [0xffff_ffff_ffff_ffffu64; 16];
     bytes(words, 3, &mut stored);
@@ -126,18 +122,11 @@ fn same_marked(words: &[u64], from: usize, n: usize, marks: &[u8], xs: &[f32], a
     requires { (from ≤ 8192) × (n ≤ 1024) × (n ≤ length marks.now) × (at + n ≤ length xs.now) }
     ensures { result ≡ marked_agree marks.now words.now from (take n (drop at xs.now)) }
 {
-    let mut all = true;
-    let mut i = 0;
-    while i < n {
-        if marks[i] != 0 && !same(xs[at + i], word(words, from + i)) {
-            all = false;
-        }
-        i += 1;
-    }
-    all
+    (0..n).all(|i| marks[i] == 0 || same(xs[at + i], word(words, from + i)))
 }
 
 // Whether both centred images, where they are marked, and the norms are those of the words.
+#[tactic(auto, unfolding(lists::specs::Lists::image))]
 fn told_marked(words: &[u64], n: usize, marks: &[u8], part: &[f32], s: stats::Stats) -> bool
     requires { (n ≤ 1024) × (n ≤ length marks.now) × (6 * n ≤ length part.now) }
     ensures { let ms = marks.now in
@@ -145,15 +134,13 @@ fn told_marked(words: &[u64], n: usize, marks: &[u8], part: &[f32], s: stats::St
         let xs = part.now in
         result ≡ (marked_agree ms ws (2 + 3 * n) (image n 4 xs) && marked_agree ms ws (2 + 4 * n) (image n 5 xs) && floats_agree ws (2 + 5 * n) (norms_of s)) }
 {
-    if !same_marked(words, 2 + 3 * n, n, marks, part, 4 * n) {
-        return false;
-    }
-    same_marked(words, 2 + 4 * n, n, marks, part, 5 * n)
+    same_marked(words, 2 + 3 * n, n, marks, part, 4 * n)
+        && same_marked(words, 2 + 4 * n, n, marks, part, 5 * n)
         && same_floats(words, 2 + 5 * n, 3, &[s.tmp_norm, s.img_norm, s.corr], 0)
 }
 
 // Pixels, marks, image, template; centred template and centred image where they are marked, norms, correlation.
-fn centred(words: &[u64]) -> bool
+pub fn centred(words: &[u64]) -> bool
     ensures { result ≡ stats_agree words.now }
 {
     let w = word(words, 1);
@@ -174,6 +161,7 @@ fn centred(words: &[u64]) -> bool
 }
 
 // A matrix, from the word i on.
+#[tactic(auto, unfolding(crate::specs::Passes::matrix_at))]
 fn matrix_at(words: &[u64], i: usize) -> Matrix3
     requires { i ≤ 11 }
     ensures { result ≡ matrix_at words.now i }
@@ -192,7 +180,7 @@ fn matrix_at(words: &[u64], i: usize) -> Matrix3
 }
 
 // Nine entries; 1 and the inverse's entries, or 0.
-fn inverted(words: &[u64]) -> bool
+pub fn inverted(words: &[u64]) -> bool
     ensures { result ≡ inverse_agrees words.now }
 {
     match inverse::try_inverse(matrix_at(words, 1)) {
@@ -203,17 +191,5 @@ fn inverted(words: &[u64]) -> bool
             ];
             word(words, 10) == 1 && same_floats(words, 11, 9, &e, 0)
         }
-    }
-}
-
-pub fn agrees(kind: u64, words: &[u64]) -> bool
-    ensures { result ≡ pass_agrees kind words.now }
-{
-    match kind {
-        23 => warped(words),
-        24 => centred(words),
-        25 => inverted(words),
-        28 => rows_marked(words),
-        _ => false,
     }
 }

@@ -1,46 +1,53 @@
--- Runs of words compared one after another, and words as bytes and floats: a loop's turn and its end. Assumes nothing.
-use Prim.Native.Nat.{ℕ, zero, suc, ◌+◌, ◌*◌, ◌%◌, ◌≤◌, ◌<◌}
-use mathlib.Core.Path.{◌≡◌, refl, sym, ap, ◌∙◌}
+-- Numbers compared one after another: tests that agree, and the test of each element by its place. Assumes nothing.
+use Prim.Native.Nat.{ℕ, zero, suc, ◌+◌, ◌<◌}
+use mathlib.Core.Path.{◌≡◌, refl, sym, ap, ap₂, ◌∙◌}
 use mathlib.Core.Bool.{Bool, true, false, ◌&&◌}
-use mathlib.Core.List.{List}
-use native.Mathlib.Numerals.{add-one}
+use mathlib.Core.List.{List, [], ◌∷◌}
+use native.Mathlib.Nat.{zero-add}
 use native.Mathlib.Omega.{arith}
-use lib.Dec.{eqb}
-use lib.ListN.{length, take, drop, get_or, length-take, length-drop}
-use lib.Seq.{get_or-take, get_or-drop}
-use lib.Ieee.{Float, nan}
-use Rattle.lists.specs.Lists.{tab, put, image}
-use Rattle.lists.proofs.Grow.{length_tab, tab_add}
-use Rattle.words.specs.Words.{stored_at, has_bits, bytes_at, floats_at, all_below, floats_agree, bytes_agree}
-
--- ---- a loop that tests number after number
-module _ (p : ℕ → Bool) (i : ℕ) {all : Bool} (before : all ≡ all_below i p) where
-  pub all_passed : p i ≡ true → all ≡ all_below (i + 1) p
-  unfolding all_below
-  all_passed e = before ∙ rw (add-one, e)
-
-  pub all_failed : p i ≡ false → false ≡ all_below (i + 1) p
-  unfolding all_below
-  all_failed e = rw (add-one, e)
+use lib.ListN.{length, get_or}
+use Rattle.std.specs.List.{list_all, enumerate_from, range_with_len}
+use Rattle.words.specs.Words.{all_below}
 
 pub all_agree : (n : ℕ) (p q : ℕ → Bool) → ((i : ℕ) → i < n → p i ≡ q i) → all_below n p ≡ all_below n q
 unfolding all_below
 all_agree zero p q f = refl
 all_agree (suc n) p q f = ap (λ (b : Bool). b && all_below n p) (f n (omega arith)) ∙ ap (λ (b : Bool). q n && b) (all_agree n p q (λ i h. f i (omega arith)))
 
--- ---- its end: the n floats from `at` on, the first n bytes
-module _ (words : List ℕ) (from n : ℕ) where
-  pub floats_run : (xs : List Float) (at : ℕ) → at + n ≤ length xs → all_below n (λ i. has_bits (get_or xs (at + i) nan) (stored_at words (from + i))) ≡ floats_agree words from (take n (drop at xs))
-  unfolding floats_agree
-  floats_run xs at h =
-      let e : length (take n (drop at xs)) ≡ n = simp (length-take, length-drop) (omega arith) in
-      let at_i : (i : ℕ) → i < n → get_or xs (at + i) nan ≡ get_or (take n (drop at xs)) i nan = λ i l. sym (get_or-take n (drop at xs) i nan l ∙ get_or-drop at xs i nan) in
-      all_agree n _ _ (λ i l. ap (λ (x : Float). has_bits x (stored_at words (from + i))) (at_i i l))
-      ∙ ap (λ (k : ℕ). all_below k (λ i. has_bits (get_or (take n (drop at xs)) i nan) (stored_at words (from + i)))) (sym e)
+-- ---- the same from the first number on
+swap : (a b c : Bool) → (a && (b && c)) ≡ (b && (a && c))
+swap true b c = refl
+swap false true c = refl
+swap false false c = refl
 
-  pub bytes_run : (xs : List ℕ) → n ≤ length xs → all_below n (λ i. eqb (get_or xs i 0) (stored_at words (from + i) % 256)) ≡ bytes_agree words from (take n xs)
-  unfolding bytes_agree
-  bytes_run xs h =
-      let e : length (take n xs) ≡ n = simp length-take (omega arith) in
-      all_agree n _ _ (λ i l. ap (λ (x : ℕ). eqb x (stored_at words (from + i) % 256)) (sym (get_or-take n xs i 0 l)))
-      ∙ ap (λ (k : ℕ). all_below k (λ i. eqb (get_or (take n xs) i 0) (stored_at words (from + i) % 256))) (sym e)
+first : (n : ℕ) (p : ℕ → Bool) → all_below (suc n) p ≡ (p 0 && all_below n (λ i. p (suc i)))
+unfolding all_below
+first zero p = refl
+first (suc n) p = ap (λ (b : Bool). p (suc n) && b) (first n p) ∙ swap (p (suc n)) (p 0) (all_below n (λ i. p (suc i)))
+
+-- each number of a range
+each_in : (a n : ℕ) (p : ℕ → Bool) → list_all p (range_with_len a n) ≡ all_below n (λ i. p (a + i))
+unfolding all_below
+each_in a zero p = refl
+each_in a (suc n) p =
+    let here : a ≡ a + 0 = omega arith in
+    let next : (i : ℕ) → a + 1 + i ≡ a + suc i = λ i. omega arith in
+    ap₂ (λ (k : ℕ) (b : Bool). p k && b) here (each_in (a + 1) n p ∙ all_agree n _ _ (λ i h. ap p (next i)))
+    ∙ sym (first n (λ i. p (a + i)))
+
+pub each_below : (n : ℕ) (p : ℕ → Bool) → list_all p (range_with_len 0 n) ≡ all_below n p
+each_below n p = each_in 0 n p ∙ all_agree n _ _ (λ i h. ap p (zero-add i))
+
+module _ {A : Type 0} (p : ℕ × A → Bool) (d : A) where
+  each_from : (n : ℕ) (xs : List A) → list_all p (enumerate_from n xs) ≡ all_below (length xs) (λ i. p (n + i, get_or xs i d))
+  unfolding all_below
+  each_from n [] = refl
+  each_from n (x ∷ xs) =
+      let here : n ≡ n + 0 = omega arith in
+      let next : (i : ℕ) → n + 1 + i ≡ n + suc i = λ i. omega arith in
+      ap₂ (λ (k : ℕ) (b : Bool). p (k, x) && b) here (each_from (n + 1) xs ∙ all_agree (length xs) _ _ (λ i h. ap (λ (k : ℕ). p (k, get_or xs i d)) (next i)))
+      ∙ sym (first (length xs) (λ i. p (n + i, get_or (x ∷ xs) i d)))
+
+  -- each element, tested with its place
+  pub each_at : (xs : List A) → list_all p (enumerate_from 0 xs) ≡ all_below (length xs) (λ i. p (i, get_or xs i d))
+  each_at xs = each_from 0 xs ∙ all_agree (length xs) _ _ (λ i h. ap (λ (k : ℕ). p (k, get_or xs i d)) (zero-add i))

@@ -1,2 +1,1 @@
 pub mod Agree
-mod Reading

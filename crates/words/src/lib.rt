@@ -13,7 +13,7 @@ pub use line::Line;
 pub fn word(words: &[u64], i: usize) -> u64
     ensures { result ≡ stored_at words.now i }
 {
-    if i < words.len() { words[i] } else { 0 }
+    words.get(i).copied().unwrap_or(0)
 }
 
 // The low 32 bits.
@@ -41,10 +41,8 @@ pub fn same(x: f32, w: u64) -> bool
 pub fn bytes(words: &[u64], from: usize, out: &mut [u8])
     ensures { out.new ≡ bytes_at words.now from (length out.old) }
 {
-    let mut i = 0;
-    while i < out.len() {
-        out[i] = byte(word_after(words, from, i));
-        i += 1;
+    for (i, b) in out.iter_mut().enumerate() {
+        *b = byte(word_after(words, from, i));
     }
 }
 
@@ -60,10 +58,8 @@ pub fn floats(words: &[u64], from: usize, n: usize, out: &mut [f32], at: usize)
     requires { at + n ≤ length out.old }
     ensures { out.new ≡ put out.old at (floats_at words.now from n) }
 {
-    let mut i = 0;
-    while i < n {
+    for i in 0..n {
         out[at + i] = float(word_after(words, from, i));
-        i += 1;
     }
 }
 
@@ -71,12 +67,7 @@ pub fn floats(words: &[u64], from: usize, n: usize, out: &mut [f32], at: usize)
 fn word_after(words: &[u64], from: usize, i: usize) -> u64
     ensures { result ≡ stored_at words.now (from + i) }
 {
-    if from < words.len() {
-        if i < words.len() - from {
-            return words[from + i];
-        }
-    }
-    0
+    from.checked_add(i).map_or(0, |at| word(words, at))
 }
 
 // Whether the n floats from `at` on have the bit patterns of the words from `from` on.
@@ -84,15 +75,10 @@ pub fn same_floats(words: &[u64], from: usize, n: usize, xs: &[f32], at: usize) 
     requires { at + n ≤ length xs.now }
     ensures { result ≡ floats_agree words.now from (take n (drop at xs.now)) }
 {
-    let mut all = true;
-    let mut i = 0;
-    while i < n {
-        if !same(xs[at + i], word_after(words, from, i)) {
-            all = false;
-        }
-        i += 1;
-    }
-    all
+    xs[at..at + n]
+        .iter()
+        .enumerate()
+        .all(|(i, x)| same(*x, word_after(words, from, i)))
 }
 
 // Whether the first n bytes are those of the words from `from` on.
@@ -100,13 +86,8 @@ pub fn same_bytes(words: &[u64], from: usize, n: usize, xs: &[u8]) -> bool
     requires { n ≤ length xs.now }
     ensures { result ≡ bytes_agree words.now from (take n xs.now) }
 {
-    let mut all = true;
-    let mut i = 0;
-    while i < n {
-        if xs[i] != byte(word_after(words, from, i)) {
-            all = false;
-        }
-        i += 1;
-    }
-    all
+    xs[..n]
+        .iter()
+        .enumerate()
+        .all(|(i, x)| *x == byte(word_after(words, from, i)))
 }

@@ -2,12 +2,11 @@
 ghost use Rattle.std.specs.Prelude.{◌≡◌, ◌<◌, length};
 ghost use Rattle.words.specs.Reading.{digit_of, no_word, closed_of, closed_in, line_after, words_after};
 
-// The words so far are the first `count` of the lent slice. `value` is the word that is being read, if `open`.
+// The words so far are the first `count` of the lent slice; `open` is the word that is being read.
 #[derive(Clone, Copy)]
 pub struct Line {
     pub count: usize,
-    pub value: u64,
-    pub open: bool,
+    pub open: Option<u64>,
     pub skip: bool,
 }
 
@@ -17,25 +16,23 @@ impl Line {
     {
         Line {
             count: 0,
-            value: 0,
-            open: false,
+            open: None,
             skip: false,
         }
     }
 
     // The line with its open word put away. A word past the slice's end is dropped.
+    #[tactic(auto, unfolding(crate::specs::Reading::closed_of, crate::specs::Reading::closed_in, lists::specs::Marked::pick))]
     pub fn closed(self, words: &mut [u64]) -> Line
         ensures { (result ≡ closed_of self (length words.old)) × (words.new ≡ closed_in self words.old) }
     {
-        let at = self.count;
-        if self.open {
-            if at < words.len() {
-                words[at] = self.value;
+        if let Some(word) = self.open {
+            if self.count < words.len() {
+                words[self.count] = word;
                 return Line {
-                    count: at + 1,
-                    value: 0,
-                    open: false,
-                    skip: self.skip,
+                    count: self.count + 1,
+                    open: None,
+                    ..self
                 };
             }
         }
@@ -43,40 +40,36 @@ impl Line {
     }
 
     // The line after one more byte that ends no line.
+    #[tactic(auto, unfolding(crate::specs::Reading::line_after, crate::specs::Reading::words_after, lists::specs::Marked::pick))]
     pub fn with(self, words: &mut [u64], b: u8) -> Line
         ensures { (result ≡ line_after self (length words.old) b) × (words.new ≡ words_after self b words.old) }
     {
         if self.skip {
             return self;
         }
-        if b == b' ' {
-            return self.closed(words);
-        }
-        if b == b'#' {
-            let end = self.closed(words);
-            return Line {
-                count: end.count,
-                value: 0,
-                open: false,
+        match b {
+            b' ' => self.closed(words),
+            b'#' => Line {
+                open: None,
                 skip: true,
-            };
-        }
-        Line {
-            count: self.count,
-            value: self.value % 0x1000_0000_0000_0000 * 16 + digit(b),
-            open: true,
-            skip: false,
+                ..self.closed(words)
+            },
+            _ => Line {
+                open: Some(self.open.unwrap_or(0) % 0x1000_0000_0000_0000 * 16 + digit(b)),
+                ..self
+            },
         }
     }
 }
 
 // A hexadecimal digit's value; any other byte counts as 0.
+#[tactic(auto, unfolding(crate::specs::Reading::digit_of, lists::specs::Marked::pick))]
 fn digit(b: u8) -> u64
     ensures { (result ≡ digit_of b) × (result < 16) }
 {
     match b {
-        b'0'..=b'9' => (b - b'0') as u64,
-        b'a'..=b'f' => (b - b'a' + 10) as u64,
+        b'0'..=b'9' => u64::from(b - b'0'),
+        b'a'..=b'f' => u64::from(b - b'a') + 10,
         _ => 0,
     }
 }

@@ -1,28 +1,19 @@
--- `words::same_floats` meets its contract. The loop's invariant: `all` says whether the first i agree. The measure is what is left. Assumes nothing.
-use mathlib.Core.Path.{◌≡◌, refl, sym, ap, ◌∙◌}
-use Prim.Native.Nat.{◌+◌, ◌-◌}
-use native.Mathlib.Omega.{arith}
-use lib.ListN.{get_or}
-use lib.Ieee.{nan}
-use borrow.Author.Rules.{rules}
-use Rattle.words.specs.Words.{stored_at, has_bits, all_below}
-use Rattle.words.proofs.Agree.{all_passed, all_failed, floats_run}
-use Rattle.words.proofs.same_floats.Goals.{else-not-same, then-not-same}
+-- `words::same_floats` meets its contract. Assumes nothing.
+use Rattle.std.proofs.Common.{rules, arith, ◌∙◌, ◌≡◌, ◌+◌, ◌-◌, ℕ, take, drop}
+use borrow.Author.Tests.{tests}
+use lib.Ieee.{Float, nan}
+use Rattle.std.proofs.lemmas.Iterator.{YieldsList-from_slice}
+use Rattle.std.proofs.lemmas.Iterator.Consumers.{YieldsList-from_enumerate}
+use Rattle.std.proofs.lemmas.Iterator.Search.{all_from_yields_List}
+use Rattle.words.specs.Words.{stored_at, has_bits, floats_agree}
+use Rattle.words.proofs.Agree.{each_at}
 use Rattle.words.proofs.same_floats.Goals as goal
 
-pub loop-i-init : goal.loop-i-init
-unfolding all_below
-loop-i-init c = (search rules, refl)
-
-pub loop-i-preserved : goal.loop-i-preserved
-loop-i-preserved c =
-    let l = c.loop-i in
-    let a = c.args in
-    let told : c.same.result ≡ has_bits (get_or a.xs.now (a.at + l.i) nan) (stored_at a.words.now (a.from + l.i)) = c.same.ensures ∙ ap (has_bits _) c.word_after.ensures in
-    (omega arith, elim c.if-not-same.branch [ then-not-same w ↦ w.all-is ∙ all_failed _ _ l.invariant.1 (sym told ∙ w.if-not-same.true) | else-not-same w ↦ w.all-is ∙ all_passed _ _ l.invariant.1 (sym told ∙ w.if-not-same.false) ])
-
 pub returns : goal.returns
+unfolding floats_agree
 returns c =
     let a = c.args in
-    let end : c.loop-i.i ≡ a.n = omega arith in
-    (rw end at c.loop-i.invariant.1) ∙ floats_run a.words.now a.from a.n a.xs.now a.at c.requires
+    let n : a.at + a.n - a.at ≡ a.n = omega arith in
+    let p : ℕ × Float → _ = λ q. has_bits q.1 (stored_at c.args.words.now (c.args.from + q.0)) in
+    all_from_yields_List p _ _ _ c.all.ensures.ran (YieldsList-from_enumerate (YieldsList-from_slice (take a.n (drop a.at a.xs.now)) (grind (arith, n))) (cc)) (λ x b q k. search (rules, tests))
+    ∙ each_at p nan _
