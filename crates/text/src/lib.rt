@@ -4,68 +4,35 @@
 #![tactic(auto)]
 
 ghost use Rattle.std.specs.Prelude.{◌≡◌, [], ◌∷◌, ◌++◌, ◌+◌, ◌≤◌, length};
-ghost use Rattle.text.specs.Text.{decimal_of, distance_of, signed_of, frame_line, end_line, Wrote};
+ghost use Rattle.text.specs.Text.{distance_of, frame_line, end_line, Wrote};
+
+use itoa::{Buffer, Integer};
 
 // The bytes of src.
 fn put_bytes(out: &mut [u8], at: usize, src: &[u8]) -> usize
     requires { at + length src.now ≤ length out.old }
     ensures { Wrote out.old at src.now (length src.now) out.new result }
 {
-    let mut i = 0;
-    while i < src.len() {
-        out[at + i] = src[i];
-        i += 1;
-    }
-    at + i
+    let next = at + src.len();
+    out[at..next].copy_from_slice(src);
+    next
 }
 
-// One byte.
-fn put_byte(out: &mut [u8], at: usize, b: u8) -> usize
-    requires { at + 1 ≤ length out.old }
-    ensures { Wrote out.old at (b ∷ []) 1 out.new result }
+// n in decimal, with a sign where it is negative, and the byte that ends it.
+fn put_number<I: Integer>(out: &mut [u8], at: usize, n: I, end: u8) -> usize
+    requires { at + I.MAX_STR_LEN + 1 ≤ length out.old }
+    ensures { Wrote out.old at (I.text n ++ (end ∷ [])) (I.MAX_STR_LEN + 1) out.new result }
 {
-    out[at] = b;
-    at + 1
-}
-
-// n in decimal.
-fn put_digits(out: &mut [u8], at: usize, n: u64) -> usize
-    requires { at + 20 ≤ length out.old }
-    ensures { Wrote out.old at (decimal_of n) 20 out.new result }
-{
-    let mut digits = [0u8; 20];
-    let k = io::decimal(n, &mut digits);
-    put_bytes(out, at, &digits[..k])
-}
-
-// n in decimal, and the byte that ends it.
-fn put_decimal(out: &mut [u8], at: usize, n: u64, end: u8) -> usize
-    requires { at + 21 ≤ length out.old }
-    ensures { Wrote out.old at (decimal_of n ++ (end ∷ [])) 21 out.new result }
-{
-    let next = put_digits(out, at, n);
-    put_byte(out, next, end)
+    let mut digits = Buffer::new();
+    let next = put_bytes(out, at, digits.format(n).as_bytes());
+    put_bytes(out, next, &[end])
 }
 
 // The distance of n to 0.
 pub fn size(n: i16) -> u64
     ensures { (result ≡ distance_of n) × (result ≤ 32768) }
 {
-    let m = n as i64;
-    if m < 0 { (0 - m) as u64 } else { m as u64 }
-}
-
-// n in decimal, with a sign where it is negative, and the byte that ends it.
-fn put_signed(out: &mut [u8], at: usize, n: i16, end: u8) -> usize
-    requires { at + 22 ≤ length out.old }
-    ensures { Wrote out.old at (signed_of n ++ (end ∷ [])) 7 out.new result }
-{
-    let k = size(n);
-    if n < 0 {
-        let next = put_byte(out, at, b'-');
-        return put_decimal(out, next, k, end);
-    }
-    put_decimal(out, at, k, end)
+    u64::from(n.unsigned_abs())
 }
 
 // A frame's line: `position number passes dx dy turn`.
@@ -82,12 +49,12 @@ pub fn put_line(
     requires { at + 100 ≤ length out.old }
     ensures { Wrote out.old at (frame_line position number passes dx dy turn) 100 out.new result }
 {
-    let a = put_decimal(out, at, position, b' ');
-    let b = put_decimal(out, a, number as u64, b' ');
-    let c = put_decimal(out, b, passes as u64, b' ');
-    let d = put_signed(out, c, dx, b' ');
-    let e = put_signed(out, d, dy, b' ');
-    put_signed(out, e, turn, b'\n')
+    let a = put_number(out, at, position, b' ');
+    let b = put_number(out, a, number, b' ');
+    let c = put_number(out, b, passes, b' ');
+    let d = put_number(out, c, dx, b' ');
+    let e = put_number(out, d, dy, b' ');
+    put_number(out, e, turn, b'\n')
 }
 
 // The last line: `done` or `cut`, and the count of frames.
@@ -95,10 +62,7 @@ pub fn put_end(out: &mut [u8], at: usize, done: bool, frames: u64) -> usize
     requires { at + 100 ≤ length out.old }
     ensures { Wrote out.old at (end_line done frames) 100 out.new result }
 {
-    if done {
-        let word = put_bytes(out, at, b"done ");
-        return put_decimal(out, word, frames, b'\n');
-    }
-    let word = put_bytes(out, at, b"cut ");
-    put_decimal(out, word, frames, b'\n')
+    let word: &[u8] = if done { b"done " } else { b"cut " };
+    let next = put_bytes(out, at, word);
+    put_number(out, next, frames, b'\n')
 }
