@@ -1,11 +1,11 @@
--- Answers with a side that no frame has, and what is known of sides that a frame has. Assumes nothing.
+-- What is known of sides that a frame has. Assumes nothing.
 use Rattle.std.proofs.Common.{◌≡◌, ℕ, ◌-◌, ◌≤◌, Bool, true, false, ◌&&◌, ltb, leb, sym, refl, true≢false, arith, ltb-true, leb-true}
 use lib.Ieee.{Float}
 use Rattle.lists.specs.Premises.{is_side}
-use Rattle.lists.proofs.Cases.{pick_true, pick_false}
+use Rattle.lists.proofs.Cases.{pick_true}
 use Rattle.pose.specs.declared.Answer.{Answer}
-use Rattle.pose.specs.declared.Answer.TheVariants.{Posed, Refused}
-use Rattle.driver.specs.Pins.{still_of, posed_of, pins_of}
+use Rattle.pose.specs.declared.Answer.TheVariants.{Posed}
+use Rattle.driver.specs.Pins.{posed_of, pins_of}
 
 both : (a b : Bool) → (a && b) ≡ true → (a ≡ true) × (b ≡ true)
 both true b e = (refl, e)
@@ -18,16 +18,6 @@ side_bounds n e = let b = both (leb n 4096) (ltb 0 n) e in (ltb-true 0 n b.1, le
   where
     less : (n : ℕ) → n ≤ 4096 → n - 1 ≤ 4095
     less n h = omega arith
-
--- of sides that no frame has nothing is felt
-pub no_frame : (a : Answer) (w h : ℕ) → (is_side w && is_side h) ≡ false → pins_of a w h ≡ still_of
-unfolding pins_of
-no_frame (Refused k) w h e = refl
-no_frame (Posed theta tx ty rho) w h e = pick_false _ _ _ e
-
-pub of_refusal : (a : Answer) (k w h : ℕ) → a ≡ Refused k → pins_of a w h ≡ still_of
-unfolding pins_of
-of_refusal a k w h e = rw e
 
 pub of_pose : (a : Answer) (theta tx ty rho : Float) (w h : ℕ) → a ≡ Posed theta tx ty rho → is_side w ≡ true → is_side h ≡ true → pins_of a w h ≡ posed_of theta tx ty (w - 1) (h - 1)
 unfolding pins_of
