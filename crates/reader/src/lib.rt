@@ -20,7 +20,7 @@ use std::io::{Read, Stdout};
 use stream::{End, Event, State, Step};
 
 // The bytes from at to end of the input's buffer are still to be used, and the first put bytes of the output's buffer are still to be
-// written.
+// written. is_going is a flag, as the definitions `Took` and `Turns` have it.
 #[derive(Clone, Copy)]
 pub struct Run {
     pub at: usize,
@@ -133,6 +133,7 @@ fn follow<R: Read>(
 }
 
 // One step of the stream, or one read.
+// The lent slices are handed on one by one: of a struct of them each function would have to promise, slice by slice, that it still lends the same.
 fn turn<R: Read>(
     input: &mut R,
     output: Stdout,

@@ -19,6 +19,7 @@ fn put_bytes(out: &mut [u8], at: usize, src: &[u8]) -> usize
 }
 
 // n in decimal, with a sign where it is negative, and the byte that ends it.
+// By itoa: of `write!` into lent memory the library says only what is written if all of it is.
 fn put_number<I: Integer>(out: &mut [u8], at: usize, n: I, end: u8) -> usize
     requires { at + I.MAX_STR_LEN + 1 ≤ length out.old }
     ensures { Wrote out.old at (I.text n ++ (end ∷ [])) (I.MAX_STR_LEN + 1) out.new result }
@@ -58,6 +59,7 @@ pub fn put_line(
 }
 
 // The last line: `done` or `cut`, and the count of frames.
+// The word is chosen by a bool, as the definition `end_line` has it.
 pub fn put_end(out: &mut [u8], at: usize, done: bool, frames: u64) -> usize
     requires { at + 100 ≤ length out.old }
     ensures { Wrote out.old at (end_line done frames) 100 out.new result }
