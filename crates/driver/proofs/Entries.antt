@@ -1,10 +1,9 @@
 -- The entries of a pose's matrix: how large they are, and that they are finite. Assumes nothing.
-use Rattle.std.proofs.Common.{◌≡◌, ℕ, ◌-◌, ◌*◌, ◌^◌, ◌<◌, ◌≤◌, Bool, true, false, T, sym, refl, subst, inl, inr, mul-le-mul, arith, lit<, lit≤}
+use Rattle.std.proofs.Common.{◌≡◌, ℕ, ◌-◌, ◌*◌, ◌^◌, ◌≤◌, Bool, true, false, T, sym, refl, subst, inl, inr, mul-le-mul, arith, lit<, lit≤}
 use native.Mathlib.Nat.{div-le_of_le-mul}
 use lib.IntN.{sub_ℕ}
 use lib.Ieee.{Float, nan, inf, fin, binary32, down, round, of_bits}
 use lib.Ieee.Scale.{finite}
-use Rattle.lists.specs.Marked.{pick}
 use Rattle.lists.proofs.Cases.{pick_true, pick_false}
 use Rattle.floats.specs.Bound.{Within}
 use Rattle.floats.proofs.Patterns.{lt_or_le}
@@ -48,15 +47,6 @@ sine_within theta h =
     h
 
 -- ---- the rows of a matrix
-
--- the cosine, or 1, stands in both
-pub diagonal : (theta tx ty : Float) → (posed_matrix theta tx ty).m00 ≡ (posed_matrix theta tx ty).m11
-unfolding posed_matrix affine_matrix affine_from_theta_tx_ty identity3 pick
-diagonal theta tx ty = go (is_pose theta tx ty)
-  where
-    go : (b : Bool) → (pick b (affine_matrix theta tx ty) identity3).m00 ≡ (pick b (affine_matrix theta tx ty) identity3).m11
-    go true = refl
-    go false = refl
 
 -- what `middle::motion` asks of a row, of both rows
 pub record Rows (m : Matrix3) : Type 0 where

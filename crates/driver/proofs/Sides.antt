@@ -1,11 +1,11 @@
--- Answers with a side that no frame has, and what is known of sides that a frame has. Assumes nothing.
-use Rattle.std.specs.Prelude.{Option, Some, None}
+-- What is known of sides that a frame has. Assumes nothing.
+use Rattle.std.specs.Prelude.{Option, Some}
 use Rattle.std.proofs.Common.{◌≡◌, ℕ, ◌-◌, ◌≤◌, Bool, true, false, ◌&&◌, ltb, leb, sym, refl, true≢false, arith, ltb-true, leb-true}
 use lib.Ieee.{Float}
 use Rattle.lists.specs.Premises.{is_side}
-use Rattle.lists.proofs.Cases.{pick_true, pick_false}
+use Rattle.lists.proofs.Cases.{pick_true}
 use Rattle.pose.specs.declared.Posed.{Posed}
-use Rattle.driver.specs.Pins.{still_of, posed_of, pins_of}
+use Rattle.driver.specs.Pins.{posed_of, pins_of}
 
 both : (a b : Bool) → (a && b) ≡ true → (a ≡ true) × (b ≡ true)
 both true b e = (refl, e)
@@ -18,16 +18,6 @@ side_bounds n e = let b = both (leb n 4096) (ltb 0 n) e in (ltb-true 0 n b.1, le
   where
     less : (n : ℕ) → n ≤ 4096 → n - 1 ≤ 4095
     less n h = omega arith
-
--- of sides that no frame has nothing is felt
-pub no_frame : (a : Option Posed) (w h : ℕ) → (is_side w && is_side h) ≡ false → pins_of a w h ≡ still_of
-unfolding pins_of
-no_frame None w h e = refl
-no_frame (Some p) w h e = pick_false _ _ _ e
-
-pub of_none : (a : Option Posed) (w h : ℕ) → a ≡ None → pins_of a w h ≡ still_of
-unfolding pins_of
-of_none a w h e = rw e
 
 pub of_pose : (a : Option Posed) (p : Posed) (w h : ℕ) → a ≡ Some p → is_side w ≡ true → is_side h ≡ true → pins_of a w h ≡ posed_of p.theta p.tx p.ty (w - 1) (h - 1)
 unfolding pins_of

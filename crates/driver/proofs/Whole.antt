@@ -1,9 +1,8 @@
--- A value to the nearest whole number, held: what `round` leaves is a whole number with its sign, exact, or an infinity; two tests tell whether it is
--- past the range; and else the cast gives it, and it fits 16 bits. Assumes nothing.
-use Rattle.std.proofs.Common.{◌≡◌, ℕ, zero, suc, ◌+◌, ◌*◌, ◌/◌, ◌^◌, ◌<◌, ◌≤◌, min, Bool, true, false, not, ◌||◌, T, ltb, pos, negsuc, neg_ℤ, sym, refl, ap, ◌∙◌, subst, true≢false, lt_of_mul-lt-mul_right, one-mul, mul-one, le_of_mul-le-mul_right, mul-div_cancel, arith, lt→ltb, pow_pos, ltb-false, ltb-true}
-use native.Mathlib.Nat.{mod-one, div-le_of_le-mul, min-eq_left, min-eq_right}
-use lib.Signed.{mag}
-use lib.Ieee.{Float, nan, inf, fin, binary32, up, down, round, lt, le, eq, is_nan, fits, to_signed}
+-- A value to the nearest whole number, held: what `round` leaves is a whole number with its sign, exact, or an infinity; and the cast to 16 bits holds
+-- it to the range. Assumes nothing.
+use Rattle.std.proofs.Common.{◌≡◌, ℕ, suc, ◌+◌, ◌*◌, ◌/◌, ◌^◌, ◌≤◌, min, Bool, true, false, cond, not, T, pos, negsuc, neg_ℤ, sym, refl, ap, ◌∙◌, subst, one-mul, mul-one, mul-div_cancel, arith, pow_pos}
+use native.Mathlib.Nat.{mod-one, div-le_of_le-mul, min-eq_right}
+use lib.Ieee.{Float, nan, inf, fin, binary32, up, down, round, is_nan, fits, to_signed}
 use lib.Ieee.Back.{round_whole}
 use lib.Ieee.Exact.{HasValue}
 use lib.Ieee.Fits.{down_pos}
@@ -56,79 +55,17 @@ rounded (fin t m (negsuc k)) f h =
       is = ap (λ (n : ℕ). capped_of t ((2 * n + d) / (2 * d))) (sym (one-mul (m * 1)));
     }
 
--- ---- the two tests
+-- ---- what the cast gives, which holds it to the range
 
-capped_high : (q : ℕ) → 32767 ≤ q → pos 32767 ≡ capped_of false q
-capped_high q h = ap pos (sym (min-eq_right h))
-
-capped_low : (q : ℕ) → 32768 ≤ q → negsuc 32767 ≡ capped_of true q
-capped_low q h = ap (λ (n : ℕ). neg_ℤ (pos n)) (sym (min-eq_right h))
-
--- above 32767
-pub above : (v : Float) (s : Bool) (q : ℕ) → Whole v s q → lt (fin false 32767 (pos 0)) v ≡ true → pos 32767 ≡ capped_of s q
-unfolding lt
-above nan s q w h = absurd w
-above (inf true) s q w h = absurd (true≢false (sym h))
-above (inf false) s q w h = rw (← w.0) (capped_high q (omega (arith, w.1)))
-above (fin true m e) s q w h = absurd (true≢false (sym h))
-above (fin false m e) s q w h =
-    let more : 32767 < q = lt_of_mul-lt-mul_right (down e) (omega (arith, ltb-true (32767 * 1 * down e) (m * up e * 1) h, w.1)) in
-    rw (← w.0) (capped_high q (omega arith))
-
--- below -32768
-pub below : (v : Float) (s : Bool) (q : ℕ) → Whole v s q → lt v (fin true 1 (pos 15)) ≡ true → negsuc 32767 ≡ capped_of s q
-unfolding lt
-below nan s q w h = absurd w
-below (inf false) s q w h = absurd (true≢false (sym h))
-below (inf true) s q w h = rw (← w.0) (capped_low q w.1)
-below (fin false m e) s q w h = absurd (true≢false (sym h))
-below (fin true m e) s q w h =
-    let more : 32768 < q = lt_of_mul-lt-mul_right (down e) (omega (arith, ltb-true (1 * 2 ^ 15 * down e) (m * up e * 1) h, w.1)) in
-    rw (← w.0) (capped_low q (omega arith))
-
-or_true : (a b : Bool) → T a → T (a || b)
-or_true true b t = tt
-or_true false b t = absurd t
-
--- neither: the cast can be made, and gives the number
-pub record Inside (v : Float) (s : Bool) (q : ℕ) : Type 0 where
-  pub low : T (le (fin true 1 (pos 63)) v)
-  pub high : T (lt v (fin false 1 (pos 63)))
-  pub is : to_signed 63 v ≡ capped_of s q
-
-pub inside : (v : Float) (s : Bool) (q : ℕ) → Whole v s q → lt (fin false 32767 (pos 0)) v ≡ false → lt v (fin true 1 (pos 15)) ≡ false → Inside v s q
-unfolding lt le eq to_signed
-inside nan s q w h k = absurd w
-inside (inf true) s q w h k = absurd (true≢false k)
-inside (inf false) s q w h k = absurd (true≢false h)
-inside (fin false m e) s q w h k =
-    let d = down e in
-    let D : 0 < d = down_pos e in
-    let few : m * up e ≤ 32767 * d = omega (arith, ltb-false (32767 * 1 * d) (m * up e * 1) h) in
-    let less : q ≤ 32767 = le_of_mul-le-mul_right (omega (arith, w.1)) D in
-    let part : m * up e / d ≡ q = ap (λ (n : ℕ). n / d) w.1 ∙ mul-div_cancel q D in
-    record {
-      low = or_true (ltb 0 (2 ^ 63 * d + m * up e * 1)) _ (lt→ltb 0 (2 ^ 63 * d + m * up e * 1) (omega arith));
-      high = lt→ltb (m * up e * 1) (2 ^ 63 * d) (omega arith);
-      is = rw (← w.0, part) (ap pos (min-eq_left (omega arith) ∙ sym (min-eq_left less)));
-    }
-inside (fin true m e) s q w h k =
-    let d = down e in
-    let D : 0 < d = down_pos e in
-    let few : m * up e ≤ 32768 * d = omega (arith, ltb-false (1 * 2 ^ 15 * d) (m * up e * 1) k) in
-    let less : q ≤ 32768 = le_of_mul-le-mul_right (omega (arith, w.1)) D in
-    let part : m * up e / d ≡ q = ap (λ (n : ℕ). n / d) w.1 ∙ mul-div_cancel q D in
-    record {
-      low = or_true (ltb (m * up e * 1) (2 ^ 63 * d)) _ (lt→ltb (m * up e * 1) (2 ^ 63 * d) (omega arith));
-      high = lt→ltb 0 (m * up e * 1 + 2 ^ 63 * d) (omega arith);
-      is = rw (← w.0, part) (ap (λ (n : ℕ). neg_ℤ (pos n)) (min-eq_left (omega arith) ∙ sym (min-eq_left less)));
-    }
-
--- 16 bits hold it, and so do 64
-pub capped_mag : (s : Bool) (q : ℕ) → mag (capped_of s q) < 32768
-capped_mag false q = omega arith
-capped_mag true q = negative (min q 32768) (omega arith)
+pub held : (v : Float) (s : Bool) (q : ℕ) → Whole v s q → to_signed 15 v ≡ capped_of s q
+unfolding to_signed
+held nan s q w = absurd w
+held (inf true) s q w = rw (← w.0) (ap (λ (n : ℕ). neg_ℤ (pos n)) (sym (min-eq_right w.1)))
+held (inf false) s q w = rw (← w.0) (ap pos (sym (min-eq_right {n = 32767} {m = q} (omega (arith, w.1)))))
+held (fin t m e) s q w =
+    let part : m * up e / down e ≡ q = ap (λ (n : ℕ). n / down e) w.1 ∙ mul-div_cancel q (down_pos e) in
+    rw (← w.0, part) (signed t q)
   where
-    negative : (n : ℕ) → n ≤ 32768 → mag (neg_ℤ (pos n)) < 32768
-    negative zero h = omega arith
-    negative (suc n) h = h
+    signed : (t : Bool) (q : ℕ) → cond t (neg_ℤ (pos (min q 32768))) (pos (min q 32767)) ≡ capped_of t q
+    signed true q = refl
+    signed false q = refl

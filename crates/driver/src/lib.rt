@@ -10,7 +10,8 @@ ghost use Rattle.driver.specs.Pins.{pin_of, still_of, finite_of, posed_of, pins_
 
 use pose::Posed;
 
-#[derive(Clone, Copy)]
+// By default 0, 0, 0: nothing moves.
+#[derive(Clone, Copy, Default)]
 pub struct Pins {
     pub dx: i16,
     pub dy: i16,
@@ -23,23 +24,7 @@ fn capped(x: f32) -> i16
     ensures { result ≡ pin_of 1 x }
 {
     let v = numbers::round(x);
-    if v > 32767.0 {
-        return 32767;
-    }
-    if v < -32768.0 {
-        return -32768;
-    }
-    std::num::truncating_f32_to_i64(v) as i16
-}
-
-fn still() -> Pins
-    ensures { result ≡ still_of }
-{
-    Pins {
-        dx: 0,
-        dy: 0,
-        turn: 0,
-    }
+    std::num::saturating_f32_to_i16(v)
 }
 
 // The numbers of a pose that is finite, with the point (a/2, b/2) in the middle of the frame. A product with 8192 is exact, or an infinity, which is held.
@@ -57,43 +42,34 @@ fn finite_pins(theta: f32, tx: f32, ty: f32, a: u64, b: u64) -> Pins
 }
 
 // The numbers of a pose.
+#[tactic(auto, unfolding(crate::specs::Pins::posed_of, lists::specs::Marked::pick))]
 fn posed_pins(theta: f32, tx: f32, ty: f32, a: u64, b: u64) -> Pins
     requires { (a ≤ 4095) × (b ≤ 4095) }
     ensures { result ≡ posed_of theta tx ty a b }
 {
-    if !numbers::is_finite(theta) {
-        return still();
+    if numbers::is_finite(theta) && numbers::is_finite(tx) && numbers::is_finite(ty) {
+        return finite_pins(theta, tx, ty, a, b);
     }
-    if !numbers::is_finite(tx) {
-        return still();
-    }
-    if !numbers::is_finite(ty) {
-        return still();
-    }
-    finite_pins(theta, tx, ty, a, b)
+    Pins::default()
 }
 
+#[tactic(auto, unfolding(lists::specs::Premises::is_side))]
 fn is_side(n: usize) -> bool
     ensures { result ≡ is_side n }
 {
-    if n == 0 {
-        return false;
-    }
-    n <= 4096
+    (1..=4096).contains(&n)
 }
 
 // The numbers of any answer's pose, to a frame of w by h pixels.
+#[tactic(auto, unfolding(crate::specs::Pins::pins_of, lists::specs::Premises::is_side, lists::specs::Marked::pick))]
 pub fn pins_of(pose: Option<Posed>, w: usize, h: usize) -> Pins
     ensures { result ≡ pins_of pose w h }
 {
-    if !is_side(w) {
-        return still();
-    }
-    if !is_side(h) {
-        return still();
+    if !(is_side(w) && is_side(h)) {
+        return Pins::default();
     }
     match pose {
-        None => still(),
+        None => Pins::default(),
         Some(p) => posed_pins(p.theta, p.tx, p.ty, (w - 1) as u64, (h - 1) as u64),
     }
 }

@@ -18,6 +18,7 @@ pub struct Line {
 }
 
 // The line of a frame of w by h pixels that comes after so many others.
+#[tactic(auto, unfolding(crate::specs::Lines::line_of))]
 pub fn line_of(frames: u64, outcome: Outcome, w: usize, h: usize) -> Line
     requires { frames < 18446744073709551615 }
     ensures { result ≡ line_of frames outcome w h }

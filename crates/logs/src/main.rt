@@ -7,12 +7,8 @@ use std::io::Print;
 
 // The file's name without its ending, then its log. A write that fails is not told of.
 fn show(rt: &HostRuntime, file: &str) {
-    let name = file.as_bytes();
-    if name.len() < 4 {
-        return;
-    }
     let output = rt.stdout();
-    let _ = output.write_all(&name[..name.len() - 4]);
+    let _ = output.write_all(file.strip_suffix(".rec").unwrap_or(file).as_bytes());
     let _ = output.write_all(b"\n");
     match File::open(rt, file) {
         Err(_) => {
@@ -23,25 +19,30 @@ fn show(rt: &HostRuntime, file: &str) {
 }
 
 fn main(rt: HostRuntime) {
-    show(&rt, "numbers.rec");
-    show(&rt, "nothing_more.rec");
-    show(&rt, "one_byte.rec");
-    show(&rt, "three_bytes.rec");
-    show(&rt, "length_alone.rec");
-    show(&rt, "half_a_kind.rec");
-    show(&rt, "length_0.rec");
-    show(&rt, "length_1.rec");
-    show(&rt, "settings_of_13.rec");
-    show(&rt, "settings_of_15.rec");
-    show(&rt, "settings_cut.rec");
-    show(&rt, "frame_of_3.rec");
-    show(&rt, "frame_of_0.rec");
-    show(&rt, "frame_cut.rec");
-    show(&rt, "large_cut.rec");
-    show(&rt, "large_whole.rec");
-    show(&rt, "other_cut.rec");
-    show(&rt, "other_empty.rec");
-    show(&rt, "empty.rec");
-    show(&rt, "one_byte_last.rec");
-    show(&rt, "many_lines.rec");
+    let files = [
+        "numbers.rec",
+        "nothing_more.rec",
+        "one_byte.rec",
+        "three_bytes.rec",
+        "length_alone.rec",
+        "half_a_kind.rec",
+        "length_0.rec",
+        "length_1.rec",
+        "settings_of_13.rec",
+        "settings_of_15.rec",
+        "settings_cut.rec",
+        "frame_of_3.rec",
+        "frame_of_0.rec",
+        "frame_cut.rec",
+        "large_cut.rec",
+        "large_whole.rec",
+        "other_cut.rec",
+        "other_empty.rec",
+        "empty.rec",
+        "one_byte_last.rec",
+        "many_lines.rec",
+    ];
+    for file in files {
+        show(&rt, file);
+    }
 }

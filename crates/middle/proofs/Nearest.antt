@@ -1,28 +1,13 @@
--- The nearest whole number by the highest digit alone, and a number that is past the range. Assumes nothing.
-use mathlib.Core.Path.{◌≡◌, sym, ap, ap₂, ◌∙◌}
+-- A difference by its sign, and a number that is past the range. Assumes nothing.
+use mathlib.Core.Path.{◌≡◌, ap, ◌∙◌}
 use mathlib.Core.Bool.{Bool, true, false}
 use Prim.Native.Nat.{ℕ, ◌+◌, ◌-◌, ◌*◌, ◌/◌, ◌^◌, ◌≤◌, ◌<◌}
-use native.Mathlib.Nat.{mul-div-mul_right, div-div-eq-div-mul, add-mul-div_right, le-div_iff_mul-le, min-eq_right}
+use native.Mathlib.Nat.{le-div_iff_mul-le, min-eq_right}
 use native.Mathlib.Omega.{arith}
 use borrow.Author.Tests.{lt-ltb, le-ltb}
-use lib.Dec.{lit<}
 use lib.IntN.{pos, neg_ℤ}
-use lib.Pow.{pow_pos}
 use Rattle.lists.proofs.Cases.{pick_true, pick_false}
 use Rattle.middle.specs.Held.{capped_of, nearest_whole, nearest_capped, difference_of}
-
--- 4 * 2 ^ 20 * p to a step, of which p are one in the highest digit
-scaled : (d p : ℕ) → 0 < p → (2 * (128 * d) + 2 ^ 29 * p) / (2 * (2 ^ 29 * p)) ≡ (d / p + 2 ^ 21) / 2 ^ 22
-scaled d p h =
-    let n : 2 * (128 * d) + 2 ^ 29 * p ≡ (d + 2 ^ 21 * p) * 256 = omega arith in
-    let m : 2 * (2 ^ 29 * p) ≡ p * 2 ^ 22 * 256 = omega arith in
-    ap₂ ◌/◌ n m
-    ∙ mul-div-mul_right {m = 256} (d + 2 ^ 21 * p) (p * 2 ^ 22) (lit< tt)
-    ∙ sym (div-div-eq-div-mul (d + 2 ^ 21 * p) p (2 ^ 22))
-    ∙ ap (λ (z : ℕ). z / 2 ^ 22) (add-mul-div_right d (2 ^ 21) h)
-
-pub by_top : (d : ℕ) → nearest_whole (128 * d) (2 ^ 149) ≡ (d / 2 ^ 120 + 2 ^ 21) / 2 ^ 22
-by_top d = scaled d (2 ^ 120) (pow_pos 120)
 
 -- ---- a difference by its sign
 

@@ -12,7 +12,7 @@ ghost use Rattle.middle.specs.Wide.{wide_of, lower_of, Tidy, pattern_share};
 ghost use Rattle.middle.specs.Motion.{motion_of};
 
 // A whole number in three digits: (high * 2^60 + mid) * 2^60 + low.
-#[derive(Clone, Copy)]
+#[derive(Clone, Copy, PartialEq, Eq, PartialOrd, Ord)]
 struct Wide {
     high: u64,
     mid: u64,
@@ -99,20 +99,7 @@ fn lower(x: Wide, y: Wide) -> bool
     requires { Tidy x × Tidy y }
     ensures { result ≡ ltb (lower_of x) (lower_of y) }
 {
-    if x.mid != y.mid {
-        return x.mid < y.mid;
-    }
-    x.low < y.low
-}
-
-fn less(x: Wide, y: Wide) -> bool
-    requires { Tidy x × Tidy y }
-    ensures { result ≡ ltb (wide_of x) (wide_of y) }
-{
-    if x.high != y.high {
-        return x.high < y.high;
-    }
-    lower(x, y)
+    (x.mid, x.low) < (y.mid, y.low)
 }
 
 // The highest digit of x - y.
@@ -120,10 +107,7 @@ fn top(x: Wide, y: Wide) -> u64
     requires { Tidy x × Tidy y × (wide_of y ≤ wide_of x) }
     ensures { (result ≡ (wide_of x - wide_of y) / 2 ^ 120) × (result ≤ x.high) }
 {
-    if lower(x, y) {
-        return x.high - y.high - 1;
-    }
-    x.high - y.high
+    x.high - y.high - u64::from(lower(x, y))
 }
 
 // A size with its sign, held to -32768..32767.
@@ -131,15 +115,9 @@ fn held(back: bool, n: u64) -> i16
     ensures { result ≡ capped_of back n }
 {
     if back {
-        if n > 32767 {
-            return -32768;
-        }
-        return -(n as i16);
+        return -(n.min(32768) as i64) as i16;
     }
-    if n > 32767 {
-        return 32767;
-    }
-    n as i16
+    n.min(32767) as i16
 }
 
 // x - y to the nearest step of 1/256 pixel: 2^142 of these numbers are one step, 2^22 in the highest digit.
@@ -155,7 +133,7 @@ fn settled(x: Wide, y: Wide) -> i16
     requires { Tidy x × Tidy y × (x.high < 2 ^ 60) × (y.high < 2 ^ 60) }
     ensures { result ≡ difference_of (128 * wide_of x) (128 * wide_of y) (2 ^ 149) }
 {
-    if less(x, y) {
+    if x < y {
         return held(true, rounded(y, x));
     }
     held(false, rounded(x, y))

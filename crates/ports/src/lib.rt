@@ -12,10 +12,7 @@ pub fn fetch<R: Read>(input: &mut R, buf: &mut [u8], n: usize) -> usize
     requires { n ≤ length buf.old }
     ensures { Fetched buf.old n buf.new result }
 {
-    match input.read(&mut buf[n..]) {
-        Ok(k) => k,
-        Err(_) => 0,
-    }
+    input.read(&mut buf[n..]).unwrap_or(0)
 }
 
 // Hands the first bytes of out, those that wait, to standard output, and answers how many wait afterwards: none. A write that fails is not told of.

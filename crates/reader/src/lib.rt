@@ -20,7 +20,7 @@ use std::io::{Read, Stdout};
 use stream::{End, Event, State, Step};
 
 // The bytes from at to end of the input's buffer are still to be used, and the first put bytes of the output's buffer are still to be
-// written.
+// written. is_going is a flag, as the definitions `Took` and `Turns` have it.
 #[derive(Clone, Copy)]
 pub struct Run {
     pub at: usize,
@@ -35,13 +35,8 @@ fn slide(buf: &mut [u8], at: usize, end: usize) -> usize
     requires { (at ≤ end) × (end ≤ length buf.old) }
     ensures { (result ≡ end - at) × (buf.new ≡ put buf.old 0 (take result (drop at buf.old))) }
 {
-    let n = end - at;
-    let mut i = 0;
-    while i < n {
-        buf[i] = buf[at + i];
-        i += 1;
-    }
-    n
+    buf.copy_within(at..end, 0);
+    end - at
 }
 
 // Writes what waits if little room is left, and answers where the next line goes.
@@ -81,17 +76,15 @@ fn refill<R: Read>(input: &mut R, output: Stdout, run: Run, buf: &mut [u8], out:
     ensures { Next run result (length buf.old) (length out.now) × Took run result buf.old buf.new
         × Handed (take run.put out.now) }
 {
-    let state = run.state;
     let n = slide(buf, run.at, run.end);
     let put = ports::flush(output, out, run.put);
     let k = ports::fetch(input, buf, n);
-    let end = n + k;
     Run {
         at: 0,
-        end,
+        end: n + k,
         put,
         is_going: k > 0,
-        state,
+        ..run
     }
 }
 
@@ -102,9 +95,7 @@ fn look(run: Run, buf: &[u8], store: &mut [u8], work: &mut [f32], marks: &mut [u
         (length marks.old)) × Short run result }
     ensures store_after { store.new ≡ stepped_store run.state (pending run buf.now) store.old }
 {
-    let at = run.at;
-    let end = run.end;
-    stream::advance(run.state, &buf[at..end], store, work, marks)
+    stream::advance(run.state, &buf[run.at..run.end], store, work, marks)
 }
 
 // What comes of a step: nothing, a read, a line, or the end.
@@ -120,42 +111,29 @@ fn follow<R: Read>(
     ensures { Next run result (length buf.old) (length out.old)
         × Followed run result step buf.old buf.new out.old out.new }
 {
-    let end = run.end;
-    let put = run.put;
-    let event = step.event;
-    let state = step.state;
-    let at = run.at + step.used;
-    match event {
+    let moved = Run {
+        at: run.at + step.used,
+        is_going: true,
+        state: step.state,
+        ..run
+    };
+    match step.event {
         Event::More => refill(input, output, run, buf, out),
-        Event::Quiet => Run {
-            at,
-            end,
-            put,
-            is_going: true,
-            state,
-        },
+        Event::Quiet => moved,
         Event::Print(l) => {
-            let here = room(output, out, put);
-            let there = put_line(out, here, l);
-            Run {
-                at,
-                end,
-                put: there,
-                is_going: true,
-                state,
-            }
+            let here = room(output, out, run.put);
+            let put = put_line(out, here, l);
+            Run { put, ..moved }
         }
         Event::Broken => Run {
-            at,
-            end,
-            put,
             is_going: false,
-            state,
+            ..moved
         },
     }
 }
 
 // One step of the stream, or one read.
+// The lent slices are handed on one by one: of a struct of them each function would have to promise, slice by slice, that it still lends the same.
 fn turn<R: Read>(
     input: &mut R,
     output: Stdout,
@@ -197,11 +175,12 @@ fn turns<R: Read>(
         is_going: true,
         state: stream::fresh(),
     };
-    // A proved loop has to end, and nothing says that the input does: the turns are counted down from a number that no run uses up.
-    let mut left = u64::MAX;
-    while left > 0 && run.is_going {
+    // A proved loop has to end, and nothing says that the input does: there are more turns than any run uses up.
+    for _ in 0..u64::MAX {
+        if !run.is_going {
+            break;
+        }
         run = turn(input, output, run, buf, out, store, work, marks);
-        left -= 1;
     }
     run
 }

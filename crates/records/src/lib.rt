@@ -26,26 +26,22 @@ pub enum Record {
     Broken,
 }
 
-fn wide(b: u8) -> usize
-    ensures { (result ≡ b) × (result < 256) }
-{
-    b as usize
-}
-
 // The number of two bytes, low byte first.
-fn half_at(s: &[u8], at: usize) -> usize
+#[tactic(auto, unfolding(crate::specs::Reading::half_at))]
+fn half_at(s: &[u8], at: usize) -> u16
     requires { at + 2 ≤ length s.now }
-    ensures { (result ≡ half_at s.now at) × (result < 65536) }
+    ensures { result ≡ half_at s.now at }
 {
-    wide(s[at]) + 256 * wide(s[at + 1])
+    u16::from_le_bytes([s[at], s[at + 1]])
 }
 
 // The number of four bytes, low byte first.
-fn word_at(s: &[u8], at: usize) -> usize
+#[tactic(auto, unfolding(crate::specs::Reading::half_at, crate::specs::Reading::word_at))]
+fn word_at(s: &[u8], at: usize) -> u32
     requires { at + 4 ≤ length s.now }
-    ensures { (result ≡ word_at s.now at) × (result < 4294967296) }
+    ensures { result ≡ word_at s.now at }
 {
-    half_at(s, at) + 65536 * half_at(s, at + 2)
+    u32::from_le_bytes([s[at], s[at + 1], s[at + 2], s[at + 3]])
 }
 
 // The resize choice: 0 stands for none.
@@ -61,14 +57,15 @@ fn config_at(s: &[u8]) -> EccConfig
     ensures { result ≡ config_at s.now }
 {
     EccConfig {
-        eps: numbers::from_bits(word_at(s, 6) as u32),
-        max_iter: word_at(s, 10),
-        gauss_filt_size: half_at(s, 14),
-        resize_long_edge: choice(word_at(s, 16)),
+        eps: numbers::from_bits(word_at(s, 6)),
+        max_iter: word_at(s, 10) as usize,
+        gauss_filt_size: usize::from(half_at(s, 14)),
+        resize_long_edge: choice(word_at(s, 16) as usize),
     }
 }
 
 // Kind 1, with a body of so many bytes.
+#[tactic(auto, unfolding(crate::specs::Reading::settings_of, lists::specs::Marked::pick))]
 fn read_settings(s: &[u8], body: usize) -> Record
     ensures { result ≡ settings_of s.now body }
 {
@@ -82,6 +79,7 @@ fn read_settings(s: &[u8], body: usize) -> Record
 }
 
 // Kind 2, with a body of so many bytes.
+#[tactic(auto, unfolding(crate::specs::Reading::frame_of, lists::specs::Marked::pick))]
 fn read_frame(s: &[u8], body: usize) -> Record
     ensures { result ≡ frame_of s.now body }
 {
@@ -95,33 +93,33 @@ fn read_frame(s: &[u8], body: usize) -> Record
         return Record::More;
     }
     Record::Frame {
-        w: half_at(s, 6),
-        h: half_at(s, 8),
+        w: usize::from(half_at(s, 6)),
+        h: usize::from(half_at(s, 8)),
         size: body - 4,
     }
 }
 
 // A record by its kind.
-fn read_body(s: &[u8], kind: usize, body: usize) -> Record
+#[tactic(auto, unfolding(crate::specs::Reading::body_of, lists::specs::Marked::pick))]
+fn read_body(s: &[u8], kind: u16, body: usize) -> Record
     ensures { result ≡ body_of s.now kind body }
 {
-    if kind == 1 {
-        return read_settings(s, body);
+    match kind {
+        1 => read_settings(s, body),
+        2 => read_frame(s, body),
+        _ => Record::Other(body),
     }
-    if kind == 2 {
-        return read_frame(s, body);
-    }
-    Record::Other(body)
 }
 
 // What stands at the start of any bytes.
+#[tactic(auto, unfolding(crate::specs::Reading::next_of, lists::specs::Marked::pick))]
 pub fn next(s: &[u8]) -> Record
     ensures { result ≡ next_of s.now }
 {
     if s.len() < 4 {
         return Record::More;
     }
-    let rest = word_at(s, 0);
+    let rest = word_at(s, 0) as usize;
     if rest < 2 {
         return Record::Broken;
     }

@@ -1,18 +1,17 @@
--- The digits of a number: those that io writes are the definition's, and how many there are. Assumes nothing.
-use Prim.Native.Nat.{ℕ, zero, suc, ◌+◌, ◌-◌, ◌*◌, ◌/◌, ◌%◌, ◌^◌, ◌≤◌, ◌<◌}
-use mathlib.Core.Path.{◌≡◌, refl, sym, ap, ◌∙◌}
-use mathlib.Core.Bool.{true, false, true≢false}
+-- The digits of a number: those that itoa writes are the definition's. Assumes nothing.
+use Prim.Native.Nat.{ℕ, zero, suc, ◌+◌, ◌/◌, ◌%◌, ◌^◌, ◌≤◌, ◌<◌}
+use mathlib.Core.Path.{◌≡◌, sym, ap, ◌∙◌}
 use mathlib.Core.List.{List, [], ◌∷◌, ◌++◌}
 use mathlib.Core.Logic.{◌⊎◌, inl, inr, ⊎_elim}
-use native.Mathlib.Nat.{pow-suc, div-lt_iff_lt-mul, le-div_iff_mul-le, one-le-pow, eq-zero-or-pos}
+use native.Mathlib.Nat.{eq-zero-or-pos}
 use native.Mathlib.Omega.{arith}
-use borrow.Author.Tests.{lt-ltb, le-ltb, ltb-true}
+use borrow.Author.Tests.{lt-ltb, le-ltb}
 use lib.IntN.{ℤ, pos, negsuc}
-use lib.ListN.{length, length-append}
-use lib.Signed.{lt_z}
-use Rattle.io.specs.Digits.{hex_digit_ascii, last_digits, IsDigitCount}
+use lib.Signed.{mag}
+use Rattle.std.specs.Fmt.{decimal, signed_decimal}
+use Rattle.std.proofs.lemmas.Fmt.{decimal_by_steps}
 use Rattle.lists.proofs.Cases.{pick_true, pick_false}
-use Rattle.text.specs.Text.{digits_of, decimal_of, distance_of, signed_of}
+use Rattle.text.specs.Text.{digits_of, decimal_of, signed_of}
 
 -- ---- one digit, or more
 
@@ -28,75 +27,38 @@ more_digits f n h = pick_false _ _ _ (le-ltb n 10 h)
 pub one_or_more : (n : ℕ) → (n < 10) ⊎ (10 ≤ n)
 one_or_more n = ⊎_elim (λ p. inl (omega (arith, p))) (λ p. inr (omega (arith, p))) (eq-zero-or-pos (n / 10))
 
--- ---- the fewest digits that hold n, as io writes them
+-- ---- the digits that the library writes
 
-shorter : (n k : ℕ) → IsDigitCount 10 1 n (suc (suc k)) → (10 ≤ n) × (1 ≤ suc k) × (n / 10 < 10 ^ suc k) × (1 < suc k → 10 ^ (suc k - 1) ≤ n / 10)
-shorter n k w =
-    let p : suc (suc k) - 1 ≡ suc k = omega arith in
-    let q : suc k - 1 ≡ k = omega arith in
-    let low : 10 ^ suc k ≤ n = rw p at (w.2 (omega arith)) in
-    let one : 1 ≤ 10 ^ k = one-le-pow k 10 (omega arith) in
-    let up : n < 10 ^ suc k * 10 = rw pow-suc at w.1 in
-    let down : 10 ^ k * 10 ≤ n = rw pow-suc at low in (
-      omega (arith, pow-suc 10 k),
-      omega arith,
-      (div-lt_iff_lt-mul {k = 10} {x = n} {y = 10 ^ suc k} (omega arith)).1 up,
-      λ _. rw q ((le-div_iff_mul-le {k = 10} {x = 10 ^ k} {y = n} (omega arith)).1 down),
-    )
-
-last_glyph : (n : ℕ) → hex_digit_ascii (n % 10) ≡ 48 + n % 10
-last_glyph n = let h : n % 10 < 10 = omega arith in rw (lt-ltb (n % 10) 10 h) refl
-
-same_digits : (f n k : ℕ) → k ≤ f → IsDigitCount 10 1 n (suc k) → last_digits 10 (suc k) n ≡ digits_of f n
-same_digits f n zero h w =
-    let e : n % 10 ≡ n = omega (arith, w.1) in
-    ap (λ (x : ℕ). x ∷ []) (last_glyph n ∙ ap (λ (d : ℕ). 48 + d) e) ∙ sym (one_digit f n w.1)
-same_digits zero n (suc k) h w = absurd (omega arith)
-same_digits (suc f) n (suc k) h w =
-    let s = shorter n k w in
-    ap (λ (l : List ℕ). l ++ (hex_digit_ascii (n % 10) ∷ [])) (same_digits f (n / 10) k (omega arith) (s.1, s.2, s.3))
-    ∙ ap (λ (x : ℕ). digits_of f (n / 10) ++ (x ∷ [])) (last_glyph n)
-    ∙ sym (more_digits f n s.0)
-
-below_power : (k : ℕ) → k < 10 ^ k
-below_power zero = omega arith
-below_power (suc k) = omega (arith, pow-suc 10 k, below_power k)
-
-pub decimal_is : (n k : ℕ) → IsDigitCount 10 1 n k → last_digits 10 k n ≡ decimal_of n
-unfolding decimal_of
-decimal_is n zero w = absurd (omega (arith, w.0))
-decimal_is n (suc zero) w = same_digits n n zero (omega arith) w
-decimal_is n (suc (suc k)) w =
-    let p : suc (suc k) - 1 ≡ suc k = omega arith in
-    let low : 10 ^ suc k ≤ n = rw p at (w.2 (omega arith)) in
-    same_digits n n (suc k) (omega (arith, below_power (suc k))) w
-
--- ---- how many
-
-few_digits : (f k n : ℕ) → n < 10 ^ suc k → length (digits_of f n) ≤ suc k
-unfolding digits_of
-few_digits zero k n h = omega arith
-few_digits (suc f) zero n h = rw (one_digit (suc f) n h) (omega arith)
-few_digits (suc f) (suc k) n h =
-    ⊎_elim (λ p. rw (one_digit (suc f) n p) (omega arith))
+-- more room than n needs changes nothing
+enough : (f g n : ℕ) → n ≤ f → n ≤ g → digits_of f n ≡ digits_of g n
+enough zero g n h k = one_digit zero n (omega arith) ∙ sym (one_digit g n (omega arith))
+enough (suc f) zero n h k = one_digit (suc f) n (omega arith) ∙ sym (one_digit zero n (omega arith))
+enough (suc f) (suc g) n h k =
+    ⊎_elim (λ p. one_digit (suc f) n p ∙ sym (one_digit (suc g) n p))
     (λ p.
-    let up : n < 10 ^ suc k * 10 = rw pow-suc at h in
-    rw (more_digits f n p, length-append)
-    (omega (arith, few_digits f k (n / 10) ((div-lt_iff_lt-mul {k = 10} {x = n} {y = 10 ^ suc k} (omega arith)).1 up))))
+    more_digits f n p
+    ∙ ap (λ (l : List ℕ). l ++ ((48 + n % 10) ∷ [])) (enough f g (n / 10) (omega (arith, p)) (omega (arith, p)))
+    ∙ sym (more_digits g n p))
     (one_or_more n)
 
-pub few : (k n : ℕ) → n < 10 ^ suc k → length (decimal_of n) ≤ suc k
+longer : (n : ℕ) → 10 ≤ n → decimal_of (n / 10) ++ ((48 + n % 10) ∷ []) ≡ decimal_of n
 unfolding decimal_of
-few k n h = few_digits n k n h
+longer zero h = absurd (omega arith)
+longer (suc f) h =
+    ap (λ (l : List ℕ). l ++ ((48 + suc f % 10) ∷ [])) (enough (suc f / 10) f (suc f / 10) (omega arith) (omega arith))
+    ∙ sym (more_digits f (suc f) h)
 
--- ---- signs
+pub decimal_is : (n : ℕ) → n < 2 ^ 64 → decimal n ≡ decimal_of n
+unfolding decimal_of
+decimal_is n h =
+    decimal_by_steps (λ k l. l ≡ decimal_of k) (λ k p. sym (one_digit k k p))
+    (λ k ds p e. ap (λ (l : List ℕ). l ++ ((48 + k % 10) ∷ [])) e ∙ longer k p)
+    n h
 
-pub signed_below : (n : ℤ) → lt_z n (pos 0) ≡ true → signed_of n ≡ 45 ∷ decimal_of (distance_of n)
+next_is : (n : ℕ) → n + 1 < 2 ^ 64 → decimal (suc n) ≡ decimal_of (n + 1)
+next_is n h = let e : suc n ≡ n + 1 = omega arith in ap decimal e ∙ decimal_is (n + 1) h
+
+pub signed_is : (n : ℤ) → mag n < 2 ^ 15 → signed_decimal n ≡ signed_of n
 unfolding signed_of
-signed_below (pos n) e = absurd (omega (arith, ltb-true n 0 e))
-signed_below (negsuc n) e = refl
-
-pub signed_above : (n : ℤ) → lt_z n (pos 0) ≡ false → signed_of n ≡ decimal_of (distance_of n)
-unfolding signed_of
-signed_above (pos n) e = refl
-signed_above (negsuc n) e = absurd (true≢false e)
+signed_is (pos n) h = decimal_is n (omega (arith, h))
+signed_is (negsuc n) h = ap (λ (l : List ℕ). 45 ∷ l) (next_is n (omega (arith, h)))

@@ -37,9 +37,6 @@ wrote_as {xs} {ys} {a} w e h = record {
 abbrev pub ended : List ℕ → ℕ → List ℕ
 ended w b = w ++ (b ∷ [])
 
-pub length_ended : (w : List ℕ) (b : ℕ) → length (ended w b) ≡ length w + 1
-length_ended w b = length-append w (b ∷ [])
-
 pub frame_pieces : (position number passes : ℕ) (dx dy turn : ℤ) →
     ((((ended (decimal_of position) 32 ++ ended (decimal_of number) 32) ++ ended (decimal_of passes) 32) ++ ended (signed_of dx) 32) ++ ended (signed_of dy) 32) ++ ended (signed_of turn) 10
     ≡ frame_line position number passes dx dy turn

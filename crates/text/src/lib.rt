@@ -4,7 +4,9 @@
 #![tactic(auto)]
 
 ghost use Rattle.std.specs.Prelude.{◌≡◌, [], ◌∷◌, ◌++◌, ◌+◌, ◌≤◌, length};
-ghost use Rattle.text.specs.Text.{decimal_of, distance_of, signed_of, frame_line, end_line, Wrote};
+ghost use Rattle.text.specs.Text.{distance_of, frame_line, end_line, Wrote};
+
+use itoa::{Buffer, Integer};
 
 // The bytes of src.
 #[tactic(auto, unfolding(lists::specs::Lists::put))]
@@ -12,37 +14,26 @@ fn put_bytes(out: &mut [u8], at: usize, src: &[u8]) -> usize
     requires { at + length src.now ≤ length out.old }
     ensures { Wrote out.old at src.now (length src.now) out.new result }
 {
+<<<<<<< HEAD
     let end = at + src.len();
     out[at..end].copy_from_slice(src);
     end
+=======
+    let next = at + src.len();
+    out[at..next].copy_from_slice(src);
+    next
+>>>>>>> 004b2c19699e7f542dfc76b5870c766504df8e73
 }
 
-// One byte.
-fn put_byte(out: &mut [u8], at: usize, b: u8) -> usize
-    requires { at + 1 ≤ length out.old }
-    ensures { Wrote out.old at (b ∷ []) 1 out.new result }
+// n in decimal, with a sign where it is negative, and the byte that ends it.
+// By itoa: of `write!` into lent memory the library says only what is written if all of it is.
+fn put_number<I: Integer>(out: &mut [u8], at: usize, n: I, end: u8) -> usize
+    requires { at + I.MAX_STR_LEN + 1 ≤ length out.old }
+    ensures { Wrote out.old at (I.text n ++ (end ∷ [])) (I.MAX_STR_LEN + 1) out.new result }
 {
-    out[at] = b;
-    at + 1
-}
-
-// n in decimal.
-fn put_digits(out: &mut [u8], at: usize, n: u64) -> usize
-    requires { at + 20 ≤ length out.old }
-    ensures { Wrote out.old at (decimal_of n) 20 out.new result }
-{
-    let mut digits = [0u8; 20];
-    let k = io::decimal(n, &mut digits);
-    put_bytes(out, at, &digits[..k])
-}
-
-// n in decimal, and the byte that ends it.
-fn put_decimal(out: &mut [u8], at: usize, n: u64, end: u8) -> usize
-    requires { at + 21 ≤ length out.old }
-    ensures { Wrote out.old at (decimal_of n ++ (end ∷ [])) 21 out.new result }
-{
-    let next = put_digits(out, at, n);
-    put_byte(out, next, end)
+    let mut digits = Buffer::new();
+    let next = put_bytes(out, at, digits.format(n).as_bytes());
+    put_bytes(out, next, &[end])
 }
 
 // The distance of n to 0.
@@ -50,6 +41,7 @@ pub fn size(n: i16) -> u64
     ensures { (result ≡ distance_of n) × (result ≤ 32768) }
 {
     u64::from(n.unsigned_abs())
+<<<<<<< HEAD
 }
 
 // n in decimal, with a sign where it is negative, and the byte that ends it.
@@ -63,6 +55,8 @@ fn put_signed(out: &mut [u8], at: usize, n: i16, end: u8) -> usize
         return put_decimal(out, next, k, end);
     }
     put_decimal(out, at, k, end)
+=======
+>>>>>>> 004b2c19699e7f542dfc76b5870c766504df8e73
 }
 
 // A frame's line: `position number passes dx dy turn`.
@@ -79,23 +73,21 @@ pub fn put_line(
     requires { at + 100 ≤ length out.old }
     ensures { Wrote out.old at (frame_line position number passes dx dy turn) 100 out.new result }
 {
-    let a = put_decimal(out, at, position, b' ');
-    let b = put_decimal(out, a, number as u64, b' ');
-    let c = put_decimal(out, b, passes as u64, b' ');
-    let d = put_signed(out, c, dx, b' ');
-    let e = put_signed(out, d, dy, b' ');
-    put_signed(out, e, turn, b'\n')
+    let a = put_number(out, at, position, b' ');
+    let b = put_number(out, a, number, b' ');
+    let c = put_number(out, b, passes, b' ');
+    let d = put_number(out, c, dx, b' ');
+    let e = put_number(out, d, dy, b' ');
+    put_number(out, e, turn, b'\n')
 }
 
 // The last line: `done` or `cut`, and the count of frames.
+// The word is chosen by a bool, as the definition `end_line` has it.
 pub fn put_end(out: &mut [u8], at: usize, done: bool, frames: u64) -> usize
     requires { at + 100 ≤ length out.old }
     ensures { Wrote out.old at (end_line done frames) 100 out.new result }
 {
-    if done {
-        let word = put_bytes(out, at, b"done ");
-        return put_decimal(out, word, frames, b'\n');
-    }
-    let word = put_bytes(out, at, b"cut ");
-    put_decimal(out, word, frames, b'\n')
+    let word: &[u8] = if done { b"done " } else { b"cut " };
+    let next = put_bytes(out, at, word);
+    put_number(out, next, frames, b'\n')
 }

@@ -4,10 +4,8 @@ use lib.Signed.{mag}
 use lib.Ieee.{Float, fin, binary32, mul, fits, of_bits}
 use lib.Ieee.Scale.{finite}
 use mir.ValLaws.{to_z-of_z}
-use Rattle.pose.specs.Pose.{posed_matrix}
-use Rattle.middle.specs.Motion.{motion_of}
 use Rattle.driver.specs.Pins.{pin_of, finite_of}
-use Rattle.driver.proofs.Entries.{diagonal, Rows, rows_posed}
+use Rattle.driver.proofs.Entries.{Rows, rows_posed}
 use Rattle.driver.proofs.Scaled.{times_number, pin_times}
 use Rattle.driver.proofs.finite_pins.Goals as goal
 
@@ -20,15 +18,15 @@ pin_is x t r f g h e = same h ∙ e ∙ pin_times x t (subst T (sym f) tt) g
 
 pub motion-requires : goal.motion-requires
 motion-requires c =
-    let rows : Rows c.posed_matrix-m.result =
+    let m : Rows c.posed_matrix-m.result =
     subst Rows (sym c.posed_matrix-m.ensures) (rows_posed c.args.theta c.args.tx c.args.ty c.requires.t.1 c.requires.t.2) in
-    let m = rows in search rules
+    search rules
 
 pub motion-requires-2 : goal.motion-requires-2
 motion-requires-2 c =
-    let rows : Rows c.posed_matrix-m.result =
+    let m : Rows c.posed_matrix-m.result =
     subst Rows (sym c.posed_matrix-m.ensures) (rows_posed c.args.theta c.args.tx c.args.ty c.requires.t.1 c.requires.t.2) in
-    let m = rows in search rules
+    search rules
 
 pub capped-requires : goal.capped-requires
 unfolding of_bits
@@ -37,14 +35,11 @@ capped-requires c = times_number c.args.theta 13 c.requires.t.0
 pub returns : goal.returns
 unfolding finite_of of_bits
 returns c =
-    let across : let m = posed_matrix c.args.theta c.args.tx c.args.ty in c.motion.result ≡ motion_of m.m00 c.args.a m.m01 c.args.b m.m02 =
-    cc (c.motion.ensures, c.posed_matrix-m.ensures, diagonal c.args.theta c.args.tx c.args.ty) in
-    let along : let m = posed_matrix c.args.theta c.args.tx c.args.ty in c.motion-2.result ≡ motion_of m.m11 c.args.b m.m10 c.args.a m.m12 =
-    cc (c.motion-2.ensures, c.posed_matrix-m.ensures, diagonal c.args.theta c.args.tx c.args.ty) in
     rw (
       same c.motion.type_inv,
       same c.motion-2.type_inv,
       pin_is c.args.theta 13 _ c.well_formed.0.1 c.requires.t.0 c.capped.type_inv c.capped.ensures,
-      across,
-      along,
+      c.motion.ensures,
+      c.motion-2.ensures,
+      c.posed_matrix-m.ensures,
     )

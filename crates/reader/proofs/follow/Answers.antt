@@ -46,7 +46,7 @@ returns-in-Print g c =
     let a = c.args in
     let l = c.in-Print.l in
     let h = c.room-here in
-    let p = c.put_line-there in
+    let p = c.put_line-put in
     let q : a.step.event ≡ event.Print l = cc in
     (search rules, by_event a.run _ a.step a.buf.now _ a.out.now _ (event.Print l) q h.ensures.2 ((record { start = refl; end = refl; bytes = refl; state = refl }, subst (λ (i : ℕ). Wrote a.out.now i (text_of l) 100 p.new.out p.result) h.ensures.1 p.ensures, refl)))
 
