@@ -14,15 +14,9 @@ fn put_bytes(out: &mut [u8], at: usize, src: &[u8]) -> usize
     requires { at + length src.now ≤ length out.old }
     ensures { Wrote out.old at src.now (length src.now) out.new result }
 {
-<<<<<<< HEAD
     let end = at + src.len();
     out[at..end].copy_from_slice(src);
     end
-=======
-    let next = at + src.len();
-    out[at..next].copy_from_slice(src);
-    next
->>>>>>> 004b2c19699e7f542dfc76b5870c766504df8e73
 }
 
 // n in decimal, with a sign where it is negative, and the byte that ends it.
@@ -41,22 +35,6 @@ pub fn size(n: i16) -> u64
     ensures { (result ≡ distance_of n) × (result ≤ 32768) }
 {
     u64::from(n.unsigned_abs())
-<<<<<<< HEAD
-}
-
-// n in decimal, with a sign where it is negative, and the byte that ends it.
-fn put_signed(out: &mut [u8], at: usize, n: i16, end: u8) -> usize
-    requires { at + 22 ≤ length out.old }
-    ensures { Wrote out.old at (signed_of n ++ (end ∷ [])) 7 out.new result }
-{
-    let k = size(n);
-    if n < 0 {
-        let next = put_byte(out, at, b'-');
-        return put_decimal(out, next, k, end);
-    }
-    put_decimal(out, at, k, end)
-=======
->>>>>>> 004b2c19699e7f542dfc76b5870c766504df8e73
 }
 
 // A frame's line: `position number passes dx dy turn`.
