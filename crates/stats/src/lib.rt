@@ -37,10 +37,8 @@ fn means_stretch(part: &[f32], n: usize, from: usize, to: usize, before: Means) 
 {
     let t = 3 * n;
     let mut s = before;
-    let mut i = from;
-    while i < to {
+    for i in from..to {
         s = Means(s.0 + part[t + i], s.1 + part[i]);
-        i += 1;
     }
     s
 }
@@ -60,11 +58,8 @@ fn means_over_mask(
         result ≡ (mean_of ms n (image n 3 part.now), mean_of ms n (image n 0 part.now)) }
 {
     let mut s = Means(0.0, 0.0);
-    let mut i = from;
-    while i < to {
-        let r = bits::next_stretch(marks, i, to);
+    for r in bits::marked_stretches(marks, from, to) {
         s = means_stretch(part, n, r.from, r.to, s);
-        i = r.to;
     }
     let nf = numbers::to_f32(found);
     Means(s.0 / nf, s.1 / nf)
@@ -93,14 +88,12 @@ fn centred_stretch(
     let tz = 4 * n;
     let iz = 5 * n;
     let mut s = before;
-    let mut i = from;
-    while i < to {
+    for i in from..to {
         let tv = part[t + i] - mean.0;
         let iv = part[i] - mean.1;
         part[tz + i] = tv;
         part[iz + i] = iv;
         s = Products(s.0 + tv * tv, s.1 + iv * iv, s.2 + tv * iv);
-        i += 1;
     }
     s
 }
@@ -120,11 +113,8 @@ pub fn centered_stats_in_place(
 {
     let mean = means_over_mask(part, marks, n, from, to, found);
     let mut s = Products(0.0, 0.0, 0.0);
-    let mut i = from;
-    while i < to {
-        let r = bits::next_stretch(marks, i, to);
+    for r in bits::marked_stretches(marks, from, to) {
         s = centred_stretch(part, n, r.from, r.to, mean, s);
-        i = r.to;
     }
     Stats {
         tmp_norm: root::sqrt(s.0),

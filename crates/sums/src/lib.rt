@@ -44,11 +44,9 @@ fn steep_row(part: &mut [f32], n: usize, row: usize, w: usize, ct: f32, st: f32,
 {
     let gy = n + row;
     let to = 5 * n + row;
-    let mut x = 0;
-    while x < w {
+    for x in 0..w {
         let xf = numbers::to_f32_short(x);
         part[to + x] = part[row + x] * (-(xf * st) - yc) + part[gy + x] * (xf * ct - ys);
-        x += 1;
     }
 }
 
@@ -62,11 +60,9 @@ pub fn steep(part: &mut [f32], w: usize, h: usize, first: usize, last: usize, th
     let n = w * h;
     let ct = series::cos(theta);
     let st = series::sin(theta);
-    let mut y = first;
-    while y <= last {
+    for y in first..=last {
         let yf = numbers::to_f32_short(y);
         steep_row(part, n, y * w, w, ct, st, yf * ct, yf * st);
-        y += 1;
     }
 }
 
@@ -116,14 +112,12 @@ fn spread(part: &[f32], m: &mut [f32], n: usize, at: usize, len: usize)
     requires { (len ≤ 64) × (at + len ≤ n) × (6 * n ≤ length part.now) × (4 * len ≤ length m.old) }
     ensures { Spread part.now n at len m.old m.new }
 {
-    let mut k = 0;
-    while k < len {
+    for k in 0..len {
         let i = at + k;
         m[4 * k] = part[5 * n + i];
         m[4 * k + 1] = part[i];
         m[4 * k + 2] = part[n + i];
         m[4 * k + 3] = part[4 * n + i];
-        k += 1;
     }
 }
 
@@ -181,11 +175,8 @@ pub fn project(part: &[f32], marks: &[u64], n: usize, from: usize, to: usize) ->
 {
     let mut m = [0.0f32; 272];
     let q = 4 * numbers::least(64, n);
-    let mut i = from;
-    while i < to {
-        let r = bits::next_stretch(marks, i, to);
+    for r in bits::marked_stretches(marks, from, to) {
         project_stretch(part, &mut m, q, n, r.from, r.to);
-        i = r.to;
     }
     let a = read_four(&m, q);
     let b = read_four(&m, q + 4);
@@ -224,11 +215,9 @@ fn errors_stretch(
     let tz = 3 * n;
     let iz = 4 * n;
     let mut ep = before;
-    let mut i = from;
-    while i < to {
+    for i in from..to {
         let e = lambda * part[tz + i] - part[iz + i];
         ep = add_scaled(ep, j_at(part, n, i), e);
-        i += 1;
     }
     ep
 }
@@ -240,11 +229,8 @@ pub fn errors(part: &[f32], marks: &[u64], n: usize, from: usize, to: usize, lam
         result ≡ proj_of ms n (image n 5 xs) (image n 0 xs) (image n 1 xs) (error_of n lambda (image n 3 xs) (image n 4 xs)) }
 {
     let mut ep = Vector3(0.0, 0.0, 0.0);
-    let mut i = from;
-    while i < to {
-        let r = bits::next_stretch(marks, i, to);
+    for r in bits::marked_stretches(marks, from, to) {
         ep = errors_stretch(part, n, r.from, r.to, lambda, ep);
-        i = r.to;
     }
     ep
 }

@@ -55,10 +55,8 @@ fn project_stretch(part: &[f32], n: usize, from: usize, to: usize, before: Seven
     let tz = 3 * n;
     let iz = 4 * n;
     let mut s = before;
-    let mut i = from;
-    while i < to {
+    for i in from..to {
         s = add_products(s, part[i], part[n + i], part[iz + i], part[tz + i]);
-        i += 1;
     }
     s
 }
@@ -72,11 +70,8 @@ pub fn project(part: &[f32], marks: &[u64], n: usize, from: usize, to: usize) ->
         × (result.template_proj ≡ proj2_of ms n (image n 0 xs) (image n 1 xs) (image n 3 xs)) }
 {
     let mut s = Seven(0.0, 0.0, 0.0, 0.0, 0.0, 0.0, 0.0);
-    let mut i = from;
-    while i < to {
-        let r = bits::next_stretch(marks, i, to);
+    for r in bits::marked_stretches(marks, from, to) {
         s = project_stretch(part, n, r.from, r.to, s);
-        i = r.to;
     }
     Sums2 {
         h: Matrix2 {
@@ -106,11 +101,9 @@ fn errors_stretch(
     let tz = 3 * n;
     let iz = 4 * n;
     let mut ep = before;
-    let mut i = from;
-    while i < to {
+    for i in from..to {
         let e = lambda * part[tz + i] - part[iz + i];
         ep = Vector2(ep.0 + part[i] * e, ep.1 + part[n + i] * e);
-        i += 1;
     }
     ep
 }
@@ -122,11 +115,8 @@ pub fn errors(part: &[f32], marks: &[u64], n: usize, from: usize, to: usize, lam
         result ≡ proj2_of ms n (image n 0 xs) (image n 1 xs) (error_of n lambda (image n 3 xs) (image n 4 xs)) }
 {
     let mut ep = Vector2(0.0, 0.0);
-    let mut i = from;
-    while i < to {
-        let r = bits::next_stretch(marks, i, to);
+    for r in bits::marked_stretches(marks, from, to) {
         ep = errors_stretch(part, n, r.from, r.to, lambda, ep);
-        i = r.to;
     }
     ep
 }

