@@ -1,5 +1,5 @@
 -- A walk by stretches: what each turn gives, and what is left. Definitions only.
-use Rattle.std.specs.Prelude.{ℕ, ◌≡◌, ◌<◌, Option, MatchOption}
+use Rattle.std.specs.Prelude.{◌≡◌, ◌<◌, Option, MatchOption}
 use Rattle.bits.specs.Stretches.{StretchOf}
 use Rattle.bits.specs.declared.Stretch.{Stretch}
 use Rattle.bits.specs.declared.walk.MarkedStretches.{MarkedStretches}

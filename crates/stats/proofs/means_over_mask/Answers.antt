@@ -3,7 +3,6 @@ use mathlib.Core.Path.{◌≡◌, ◌∙◌}
 use native.Mathlib.Omega.{arith}
 use borrow.Author.Rules.{rules}
 use Rattle.marks.proofs.Count.{count_le}
-use Rattle.bits.specs.Words.{unpacked_of}
 use Rattle.bits.proofs.Walks.{along_turn, along_end}
 use Rattle.stats.proofs.Averages.{both_none, both_all, both_turn, means_of}
 use Rattle.stats.proofs.means_over_mask.Goals as goal

