@@ -10,7 +10,7 @@ ghost use Rattle.bits.specs.Stretches.{FirstOther, StretchOf};
 
 mod walk;
 
-pub use walk::{MarkedStretches, marked_stretches};
+pub use walk::{MarkedStretches, fold_marked, marked_stretches};
 
 // The pixels from `from` on, before `to`.
 #[derive(Clone, Copy)]

@@ -1,7 +1,10 @@
 // The stretches of marked pixels, one after another: what a loop over the marked pixels goes by.
 
-ghost use Rattle.std.specs.Prelude.{◌≡◌, ◌-◌, ◌*◌, ◌≤◌, length};
+ghost use Rattle.std.specs.Prelude.{◌≡◌, ℕ, ◌-◌, ◌*◌, ◌≤◌, ◌<◌, length};
 ghost use Rattle.std.specs.Iterator.{at_most};
+ghost use Rattle.lists.specs.Marked.{over_marked, over_range};
+ghost use Rattle.marks.specs.Marks.{on};
+ghost use Rattle.bits.specs.Words.{unpacked_of};
 
 use crate::{Stretch, next_stretch};
 
@@ -45,4 +48,37 @@ impl<'a> Iterator for MarkedStretches<'a> {
         self.at = r.to;
         Some(r)
     }
+}
+
+// s, taken by `step` through the places from `from` on, before `to`, in order.
+fn fold_range<S: Copy, F: Fn(S, usize) -> S>(from: usize, to: usize, s: S, step: &F) -> S
+    requires order { from ≤ to }
+    requires callable { (u : S) (k : ℕ) → k < to → F.pre step.now u k }
+    ensures { (g : S → ℕ → S) → ((u : S) (k : ℕ) (r : S) → k < to → F.post step.now u k r → r ≡ g u k) → result ≡ over_range g s from (to - from) }
+{
+    let mut t = s;
+    for i in from..to {
+        t = step(t, i);
+    }
+    t
+}
+
+// s, taken by `step` through the marked pixels from `from` on, before `to`, in order. Between two stretches no pixel is tested.
+pub fn fold_marked<S: Copy, F: Fn(S, usize) -> S>(
+    words: &[u64],
+    from: usize,
+    to: usize,
+    s: S,
+    step: F,
+) -> S
+    requires within { (from ≤ to) × (to ≤ 64 * length words.now) × (to ≤ 16777216) }
+    requires callable { (u : S) (k : ℕ) → k < to → F.pre step u k }
+    ensures { (n : ℕ) (g : S → ℕ → S) (z : S) → to ≤ n → ((u : S) (k : ℕ) (r : S) → k < to → F.post step u k r → r ≡ g u k) →
+        let m = on (unpacked_of words.now n) in s ≡ over_marked m g z from → result ≡ over_marked m g z to }
+{
+    let mut t = s;
+    for r in marked_stretches(words, from, to) {
+        t = fold_range(r.from, r.to, t, &step);
+    }
+    t
 }

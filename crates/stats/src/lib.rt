@@ -30,19 +30,6 @@ struct Means(f32, f32);
 #[derive(Clone, Copy)]
 struct Products(f32, f32, f32);
 
-// The sums of a stretch of pixels, each of them marked, added to those of the pixels before.
-fn means_stretch(part: &[f32], n: usize, from: usize, to: usize, before: Means) -> Means
-    requires { (from ≤ to) × (to ≤ n) × (6 * n ≤ length part.now) }
-    ensures { result ≡ over_range (λ s i. (s.0 ⊕ get_or part.now (3 * n + i) nan, s.1 ⊕ get_or part.now i nan)) before from (to - from) }
-{
-    let t = 3 * n;
-    let mut s = before;
-    for i in from..to {
-        s = Means(s.0 + part[t + i], s.1 + part[i]);
-    }
-    s
-}
-
 // The means of the template and the image over the marked pixels.
 fn means_over_mask(
     part: &[f32],
@@ -57,10 +44,10 @@ fn means_over_mask(
     ensures { let ms = unpacked_of marks.now n in
         result ≡ (mean_of ms n (image n 3 part.now), mean_of ms n (image n 0 part.now)) }
 {
-    let mut s = Means(0.0, 0.0);
-    for r in bits::marked_stretches(marks, from, to) {
-        s = means_stretch(part, n, r.from, r.to, s);
-    }
+    let none = Means(0.0, 0.0);
+    let s = bits::fold_marked(marks, from, to, none, |s, i| {
+        Means(s.0 + part[3 * n + i], s.1 + part[i])
+    });
     let nf = numbers::to_f32(found);
     Means(s.0 / nf, s.1 / nf)
 }

@@ -199,38 +199,15 @@ pub fn project(part: &[f32], marks: &[u64], n: usize, from: usize, to: usize) ->
     }
 }
 
-// A stretch of pixels, each of them marked, added to the error sums of the pixels before.
-fn errors_stretch(
-    part: &[f32],
-    n: usize,
-    from: usize,
-    to: usize,
-    lambda: f32,
-    before: Vector3,
-) -> Vector3
-    requires { (from ≤ to) × (to ≤ n) × (6 * n ≤ length part.now) }
-    ensures { let xs = part.now in
-        result ≡ over_range (λ s i. scaled_more s (j_at xs n i) (lambda ⊗ get_or xs (3 * n + i) nan ⊖ get_or xs (4 * n + i) nan)) before from (to - from) }
-{
-    let tz = 3 * n;
-    let iz = 4 * n;
-    let mut ep = before;
-    for i in from..to {
-        let e = lambda * part[tz + i] - part[iz + i];
-        ep = add_scaled(ep, j_at(part, n, i), e);
-    }
-    ep
-}
-
 // error_proj: the sums of j with e = lambda * template_zm - image_zm. All marks lie from the pixel `from` on, before `to`.
 pub fn errors(part: &[f32], marks: &[u64], n: usize, from: usize, to: usize, lambda: f32) -> Vector3
     requires { (n ≤ 16777216) × (6 * n ≤ length part.now) × (words_for n ≤ length marks.now) × Between (unpacked_of marks.now n) n from to }
     ensures { let ms = unpacked_of marks.now n in let xs = part.now in
         result ≡ proj_of ms n (image n 5 xs) (image n 0 xs) (image n 1 xs) (error_of n lambda (image n 3 xs) (image n 4 xs)) }
 {
-    let mut ep = Vector3(0.0, 0.0, 0.0);
-    for r in bits::marked_stretches(marks, from, to) {
-        ep = errors_stretch(part, n, r.from, r.to, lambda, ep);
-    }
-    ep
+    let none = Vector3(0.0, 0.0, 0.0);
+    bits::fold_marked(marks, from, to, none, |ep, i| {
+        let e = lambda * part[3 * n + i] - part[4 * n + i];
+        add_scaled(ep, j_at(part, n, i), e)
+    })
 }
