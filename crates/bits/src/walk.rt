@@ -1,4 +1,4 @@
-// The stretches of marked pixels, one after another: what a loop over the marked pixels goes by.
+// The stretches of marked pixels, one after another, and the fold over all marked pixels that goes by them.
 
 ghost use Rattle.std.specs.Prelude.{◌≡◌, ℕ, ◌-◌, ◌*◌, ◌≤◌, ◌<◌, length};
 ghost use Rattle.std.specs.Iterator.{at_most};

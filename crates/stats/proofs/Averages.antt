@@ -6,13 +6,10 @@ use native.Mathlib.Omega.{arith}
 use lib.ListN.{get_or}
 use lib.Ieee.{Float, nan}
 use Rattle.lists.specs.Lists.{image}
-use Rattle.lists.specs.Marked.{over_marked, over_range}
+use Rattle.lists.specs.Marked.{over_marked}
 use Rattle.lists.proofs.Images.{get_d_place}
 use Rattle.marks.specs.Marks.{on, count_on}
 use Rattle.bits.specs.Words.{unpacked_of}
-use Rattle.bits.specs.Stretches.{StretchOf}
-use Rattle.bits.specs.declared.Stretch.{Stretch}
-use Rattle.bits.proofs.Stretches.{stretch_turn}
 use Rattle.rows.specs.Between.{Between, FoldBetween}
 use Rattle.rows.proofs.Between.{fold_between}
 use Rattle.floats.specs.F32.{◌⊕◌, ◌⊘◌, f32, 0f}

@@ -7,7 +7,6 @@ use native.Mathlib.Omega.{arith}
 use lib.ListN.{get_or}
 use lib.Ieee.{Float, nan, binary32}
 use Rattle.lists.specs.Lists.{image}
-use Rattle.lists.specs.Marked.{over_range}
 use Rattle.lists.proofs.Grow.{get_d_tab}
 use Rattle.lists.proofs.Images.{get_d_place}
 use Rattle.floats.specs.F32.{◌⊖◌, ◌⊗◌, 0f}

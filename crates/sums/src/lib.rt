@@ -134,6 +134,7 @@ fn add_spread(part: &[f32], m: &mut [f32], q: usize, n: usize, at: usize, len: u
     let mut d = read_four(m, q + 12);
     let mut left = u64::MAX >> (64 - len);
     let mut k = 0;
+    // By hand: a range is counted, and slower (docs/SPEED.md, "What the compiler needs").
     while left != 0 {
         let i = at + k;
         let v = read_four(m, 4 * k);
@@ -156,6 +157,7 @@ fn project_stretch(part: &[f32], m: &mut [f32], q: usize, n: usize, from: usize,
     ensures { SumsMore part.now n q from (to - from) m.old m.new }
 {
     let mut i = from;
+    // By hand: how far a turn goes is worked out in it, so a range has nothing to count.
     while i < to {
         let len = numbers::least(64, to - i);
         spread(part, m, n, i, len);

@@ -4,7 +4,8 @@
 // image. Image 2 is not looked at. The sums keep the order of the pixels, walk the pixels that all marks lie between, and go by stretches of
 // marked ones, in which no pixel is tested.
 //
-// h[0][1] and h[1][0] are the same sum, so that seven numbers are added up before lambda is known.
+// h[0][1] and h[1][0] are the same sum, so that seven numbers are added up before lambda is known. Seven fit in variables, by the fold that
+// `errors` takes too; the sixteen of crate sums want a form of their own (docs/SPEED.md), so `project` stands in both.
 #![tactic(auto)]
 
 ghost use Rattle.std.specs.Prelude.{◌≡◌, ◌+◌, ◌-◌, ◌*◌, ◌≤◌, length, get_or};

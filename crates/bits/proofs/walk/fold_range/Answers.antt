@@ -1,5 +1,5 @@
 -- `bits::fold_range` meets its contract. Assumes nothing.
-use mathlib.Core.Path.{◌≡◌, ◌∙◌}
+use mathlib.Core.Path.{◌∙◌}
 use native.Mathlib.Omega.{arith}
 use Rattle.lists.proofs.Fold.{range_none, range_turn}
 use Rattle.bits.proofs.walk.fold_range.Goals as goal
