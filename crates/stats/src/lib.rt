@@ -2,7 +2,7 @@
 //
 // The statistics are lent six images one after another: image 0 is the warped image, image 3 the template; they leave the centred
 // template in image 4 and the centred image in image 5, at the marked pixels: nobody reads the others. Images 1 and 2 are not looked at.
-// Both loops walk the pixels that all marks lie between, by stretches of marked pixels, in which no pixel is tested.
+// Both go through the pixels that all marks lie between, by stretches of marked pixels, in which no pixel is tested.
 #![tactic(auto)]
 
 ghost use Rattle.std.specs.Prelude.{◌≡◌, ◌+◌, ◌-◌, ◌*◌, ◌≤◌, length, get_or};

@@ -13,7 +13,7 @@ ghost use Rattle.std.specs.Prelude.{◌≡◌, ℕ, ◌+◌, ◌-◌, ◌*◌, �
 ghost use Rattle.std.specs.Float.{nan};
 ghost use Rattle.std.specs.Float.Ieee.{neg};
 ghost use Rattle.lists.specs.Lists.{tab, put, image};
-ghost use Rattle.lists.specs.Marked.{over_range, words_for};
+ghost use Rattle.lists.specs.Marked.{words_for};
 ghost use Rattle.floats.specs.Bound.{Within};
 ghost use Rattle.floats.specs.F32.{◌⊕◌, ◌⊖◌, ◌⊗◌, f32, 0f};
 ghost use Rattle.bits.specs.Words.{unpacked_of};

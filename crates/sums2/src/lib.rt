@@ -8,15 +8,13 @@
 // `errors` takes too; the sixteen of crate sums want a form of their own (docs/SPEED.md), so `project` stands in both.
 #![tactic(auto)]
 
-ghost use Rattle.std.specs.Prelude.{◌≡◌, ◌+◌, ◌-◌, ◌*◌, ◌≤◌, length, get_or};
-ghost use Rattle.std.specs.Float.{nan};
+ghost use Rattle.std.specs.Prelude.{◌≡◌, ◌*◌, ◌≤◌, length};
 ghost use Rattle.lists.specs.Lists.{image};
-ghost use Rattle.lists.specs.Marked.{over_range, words_for};
-ghost use Rattle.floats.specs.F32.{◌⊖◌, ◌⊗◌};
+ghost use Rattle.lists.specs.Marked.{words_for};
 ghost use Rattle.bits.specs.Words.{unpacked_of};
 ghost use Rattle.rows.specs.Between.{Between};
 ghost use Rattle.sums.specs.Sums.{error_of};
-ghost use Rattle.sums2.specs.Steps.{seven_more, seven_at, scaled_more};
+ghost use Rattle.sums2.specs.Steps.{seven_more};
 ghost use Rattle.sums2.specs.Sums.{proj2_of, hessian2_of};
 
 use inverse2::{Matrix2, Vector2};
