@@ -4,3 +4,4 @@ pub mod Equal
 pub mod Packing
 pub mod Scan
 pub mod Stretches
+pub mod Walks

@@ -2,3 +2,4 @@ pub mod Words
 pub mod Stretches
 pub mod Packing
 pub mod Equal
+pub mod Walks

@@ -8,6 +8,10 @@ ghost use Rattle.bits.specs.Words.{bit_at, ones_of};
 ghost use Rattle.bits.specs.Packing.{flag_of, Flags, total_of, Packed};
 ghost use Rattle.bits.specs.Stretches.{FirstOther, StretchOf};
 
+mod walk;
+
+pub use walk::{MarkedStretches, fold_marked, marked_stretches};
+
 // The pixels from `from` on, before `to`.
 #[derive(Clone, Copy)]
 pub struct Stretch {

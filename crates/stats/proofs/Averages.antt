@@ -1,18 +1,15 @@
 -- What the loop of the means holds: the sums of the template and the image over the marked places, and at the end their means. Assumes nothing.
-use Prim.Native.Nat.{ℕ, ◌+◌, ◌-◌, ◌*◌, ◌≤◌}
+use Prim.Native.Nat.{ℕ, ◌+◌, ◌*◌, ◌<◌}
 use mathlib.Core.Path.{◌≡◌, refl, ap, ap₂, ◌∙◌}
 use mathlib.Core.List.{List}
 use native.Mathlib.Omega.{arith}
 use lib.ListN.{get_or}
 use lib.Ieee.{Float, nan}
 use Rattle.lists.specs.Lists.{image}
-use Rattle.lists.specs.Marked.{over_marked, over_range}
+use Rattle.lists.specs.Marked.{over_marked}
 use Rattle.lists.proofs.Images.{get_d_place}
 use Rattle.marks.specs.Marks.{on, count_on}
 use Rattle.bits.specs.Words.{unpacked_of}
-use Rattle.bits.specs.Stretches.{StretchOf}
-use Rattle.bits.specs.declared.Stretch.{Stretch}
-use Rattle.bits.proofs.Stretches.{stretch_turn}
 use Rattle.rows.specs.Between.{Between, FoldBetween}
 use Rattle.rows.proofs.Between.{fold_between}
 use Rattle.floats.specs.F32.{◌⊕◌, ◌⊘◌, f32, 0f}
@@ -30,11 +27,11 @@ module _ (ws : List ℕ) (n : ℕ) (part : List Float) where
   abbrev ms : List ℕ
   ms = unpacked_of ws n
 
-  abbrev add_both : Means → ℕ → Means
+  abbrev pub add_both : Means → ℕ → Means
   add_both s k = (s.0 ⊕ get_or (image n 3 part) k nan, s.1 ⊕ get_or (image n 0 part) k nan)
 
   -- the sums of the template and the image over the marked places below i
-  pub both_of : ℕ → Means
+  unfoldable pub both_of : ℕ → Means
   both_of i = over_marked (on ms) add_both (0f, 0f) i
 
   -- where the marks begin, and where they end
@@ -47,13 +44,9 @@ module _ (ws : List ℕ) (n : ℕ) (part : List Float) where
     unfolding both_of FoldBetween
     both_all = (fold_between Means ms n from to o add_both (0f, 0f)).1
 
-  pub both_turn : (e i : ℕ) (r : Stretch) → e ≤ n → StretchOf ws i e r → (s : Means) → s ≡ both_of i →
-      (t : Means) → t ≡ over_range (λ s k. (s.0 ⊕ get_or part (3 * n + k) nan, s.1 ⊕ get_or part k nan)) s r.from (r.to - r.from) → t ≡ both_of r.to
-  unfolding both_of
-  both_turn e i r within o s so_far t q =
-      q
-      ∙ stretch_turn ws n e i r within o add_both _ (0f, 0f) s so_far
-      (λ u k h. ap₂ (λ (x y : Float). (u.0 ⊕ x, u.1 ⊕ y)) (get_d_place n 3 k _ part nan h refl) (get_d_place n 0 k k part nan h (omega arith)))
+  -- what the code adds at a pixel
+  pub both_same : (s : Means) (k : ℕ) → k < n → ◌≡◌ {A = Means} (s.0 ⊕ get_or part (3 * n + k) nan, s.1 ⊕ get_or part k nan) (add_both s k)
+  both_same s k h = ap₂ (λ (x y : Float). (s.0 ⊕ x, s.1 ⊕ y)) (get_d_place n 3 k _ part nan h refl) (get_d_place n 0 k k part nan h (omega arith))
 
   pub means_of : (found : ℕ) (s : Means) (nf : Float) → s ≡ both_of n → found ≡ count_on ms n → nf ≡ f32 found →
       ◌≡◌ {A = Means} (s.0 ⊘ nf, s.1 ⊘ nf) (mean_of ms n (image n 3 part), mean_of ms n (image n 0 part))

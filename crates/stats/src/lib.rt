@@ -2,7 +2,7 @@
 //
 // The statistics are lent six images one after another: image 0 is the warped image, image 3 the template; they leave the centred
 // template in image 4 and the centred image in image 5, at the marked pixels: nobody reads the others. Images 1 and 2 are not looked at.
-// Both loops walk the pixels that all marks lie between, by stretches of marked pixels, in which no pixel is tested.
+// Both go through the pixels that all marks lie between, by stretches of marked pixels, in which no pixel is tested.
 #![tactic(auto)]
 
 ghost use Rattle.std.specs.Prelude.{◌≡◌, ◌+◌, ◌-◌, ◌*◌, ◌≤◌, length, get_or};
@@ -30,21 +30,6 @@ struct Means(f32, f32);
 #[derive(Clone, Copy)]
 struct Products(f32, f32, f32);
 
-// The sums of a stretch of pixels, each of them marked, added to those of the pixels before.
-fn means_stretch(part: &[f32], n: usize, from: usize, to: usize, before: Means) -> Means
-    requires { (from ≤ to) × (to ≤ n) × (6 * n ≤ length part.now) }
-    ensures { result ≡ over_range (λ s i. (s.0 ⊕ get_or part.now (3 * n + i) nan, s.1 ⊕ get_or part.now i nan)) before from (to - from) }
-{
-    let t = 3 * n;
-    let mut s = before;
-    let mut i = from;
-    while i < to {
-        s = Means(s.0 + part[t + i], s.1 + part[i]);
-        i += 1;
-    }
-    s
-}
-
 // The means of the template and the image over the marked pixels.
 fn means_over_mask(
     part: &[f32],
@@ -59,13 +44,10 @@ fn means_over_mask(
     ensures { let ms = unpacked_of marks.now n in
         result ≡ (mean_of ms n (image n 3 part.now), mean_of ms n (image n 0 part.now)) }
 {
-    let mut s = Means(0.0, 0.0);
-    let mut i = from;
-    while i < to {
-        let r = bits::next_stretch(marks, i, to);
-        s = means_stretch(part, n, r.from, r.to, s);
-        i = r.to;
-    }
+    let none = Means(0.0, 0.0);
+    let s = bits::fold_marked(marks, from, to, none, |s, i| {
+        Means(s.0 + part[3 * n + i], s.1 + part[i])
+    });
     let nf = numbers::to_f32(found);
     Means(s.0 / nf, s.1 / nf)
 }
@@ -93,14 +75,12 @@ fn centred_stretch(
     let tz = 4 * n;
     let iz = 5 * n;
     let mut s = before;
-    let mut i = from;
-    while i < to {
+    for i in from..to {
         let tv = part[t + i] - mean.0;
         let iv = part[i] - mean.1;
         part[tz + i] = tv;
         part[iz + i] = iv;
         s = Products(s.0 + tv * tv, s.1 + iv * iv, s.2 + tv * iv);
-        i += 1;
     }
     s
 }
@@ -120,11 +100,8 @@ pub fn centered_stats_in_place(
 {
     let mean = means_over_mask(part, marks, n, from, to, found);
     let mut s = Products(0.0, 0.0, 0.0);
-    let mut i = from;
-    while i < to {
-        let r = bits::next_stretch(marks, i, to);
+    for r in bits::marked_stretches(marks, from, to) {
         s = centred_stretch(part, n, r.from, r.to, mean, s);
-        i = r.to;
     }
     Stats {
         tmp_norm: root::sqrt(s.0),

@@ -1,9 +1,8 @@
 -- Of an image that is summed only the marked pixels count: images that agree there give the same sums. Assumes nothing.
 use Prim.Native.Nat.{ℕ}
-use mathlib.Core.Path.{◌≡◌, refl, sym, ap, ap₂, ◌∙◌}
+use mathlib.Core.Path.{◌≡◌, refl, sym, ap₂, ◌∙◌}
 use mathlib.Core.List.{List}
-use lib.ListN.{get_or}
-use lib.Ieee.{Float, nan}
+use lib.Ieee.{Float}
 use Rattle.floats.specs.F32.{◌⊖◌, ◌⊗◌}
 use Rattle.floats.proofs.Sums.{sum_agree}
 use Rattle.marks.specs.Marks.{on}

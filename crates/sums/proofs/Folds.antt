@@ -7,7 +7,6 @@ use native.Mathlib.Omega.{arith}
 use lib.ListN.{get_or}
 use lib.Ieee.{Float, nan, binary32}
 use Rattle.lists.specs.Lists.{image}
-use Rattle.lists.specs.Marked.{over_range}
 use Rattle.lists.proofs.Grow.{get_d_tab}
 use Rattle.lists.proofs.Images.{get_d_place}
 use Rattle.floats.specs.F32.{◌⊖◌, ◌⊗◌, 0f}
@@ -65,16 +64,16 @@ module _ (ws : List ℕ) (n : ℕ) (part : List Float) where
 
   -- ---- the sums of j with an image
   module _ (xs : List Float) where
-    abbrev add_proj : Vector3 → ℕ → Vector3
+    abbrev pub add_proj : Vector3 → ℕ → Vector3
     add_proj s k = scaled_more s (j_here k) (get_or xs k nan)
 
     -- over the marked places below i
     abbrev pub proj_to : ℕ → Vector3
     proj_to i = fold_to ws n add_proj (0f, 0f, 0f) i
 
-    pub proj_stretch : (v : ℕ → Float) → ((k : ℕ) → k < n → v k ≡ get_or xs k nan) → (e i : ℕ) (r : Stretch) → e ≤ n → StretchOf ws i e r → (s t : Vector3) → s ≡ proj_to i →
-        t ≡ over_range (λ s k. scaled_more s (j_at part n k) (v k)) s r.from (r.to - r.from) → t ≡ proj_to r.to
-    proj_stretch v same = fold_stretch ws n add_proj (0f, 0f, 0f) (λ s k. scaled_more s (j_at part n k) (v k)) (λ u k h. ap₂ (scaled_more u) (j_is k h) (same k h))
+    -- what the code adds at a pixel, with the factor v
+    pub proj_same : (s : Vector3) (k : ℕ) (v : Float) → k < n → v ≡ get_or xs k nan → scaled_more s (j_at part n k) v ≡ add_proj s k
+    proj_same s k v h e = ap₂ (scaled_more s) (j_is k h) e
 
     pub proj_end : (s : Vector3) → s ≡ proj_to n → s ≡ proj_of ms n j0 j1 j2 xs
     unfolding fold_to proj_of

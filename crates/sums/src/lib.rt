@@ -13,7 +13,7 @@ ghost use Rattle.std.specs.Prelude.{◌≡◌, ℕ, ◌+◌, ◌-◌, ◌*◌, �
 ghost use Rattle.std.specs.Float.{nan};
 ghost use Rattle.std.specs.Float.Ieee.{neg};
 ghost use Rattle.lists.specs.Lists.{tab, put, image};
-ghost use Rattle.lists.specs.Marked.{over_range, words_for};
+ghost use Rattle.lists.specs.Marked.{words_for};
 ghost use Rattle.floats.specs.Bound.{Within};
 ghost use Rattle.floats.specs.F32.{◌⊕◌, ◌⊖◌, ◌⊗◌, f32, 0f};
 ghost use Rattle.bits.specs.Words.{unpacked_of};
@@ -44,11 +44,9 @@ fn steep_row(part: &mut [f32], n: usize, row: usize, w: usize, ct: f32, st: f32,
 {
     let gy = n + row;
     let to = 5 * n + row;
-    let mut x = 0;
-    while x < w {
+    for x in 0..w {
         let xf = numbers::to_f32_short(x);
         part[to + x] = part[row + x] * (-(xf * st) - yc) + part[gy + x] * (xf * ct - ys);
-        x += 1;
     }
 }
 
@@ -62,11 +60,9 @@ pub fn steep(part: &mut [f32], w: usize, h: usize, first: usize, last: usize, th
     let n = w * h;
     let ct = series::cos(theta);
     let st = series::sin(theta);
-    let mut y = first;
-    while y <= last {
+    for y in first..=last {
         let yf = numbers::to_f32_short(y);
         steep_row(part, n, y * w, w, ct, st, yf * ct, yf * st);
-        y += 1;
     }
 }
 
@@ -116,14 +112,12 @@ fn spread(part: &[f32], m: &mut [f32], n: usize, at: usize, len: usize)
     requires { (len ≤ 64) × (at + len ≤ n) × (6 * n ≤ length part.now) × (4 * len ≤ length m.old) }
     ensures { Spread part.now n at len m.old m.new }
 {
-    let mut k = 0;
-    while k < len {
+    for k in 0..len {
         let i = at + k;
         m[4 * k] = part[5 * n + i];
         m[4 * k + 1] = part[i];
         m[4 * k + 2] = part[n + i];
         m[4 * k + 3] = part[4 * n + i];
-        k += 1;
     }
 }
 
@@ -140,6 +134,7 @@ fn add_spread(part: &[f32], m: &mut [f32], q: usize, n: usize, at: usize, len: u
     let mut d = read_four(m, q + 12);
     let mut left = u64::MAX >> (64 - len);
     let mut k = 0;
+    // By hand: a range is counted, and slower (docs/SPEED.md, "What the compiler needs").
     while left != 0 {
         let i = at + k;
         let v = read_four(m, 4 * k);
@@ -162,6 +157,7 @@ fn project_stretch(part: &[f32], m: &mut [f32], q: usize, n: usize, from: usize,
     ensures { SumsMore part.now n q from (to - from) m.old m.new }
 {
     let mut i = from;
+    // By hand: how far a turn goes is worked out in it, so a range has nothing to count.
     while i < to {
         let len = numbers::least(64, to - i);
         spread(part, m, n, i, len);
@@ -181,11 +177,8 @@ pub fn project(part: &[f32], marks: &[u64], n: usize, from: usize, to: usize) ->
 {
     let mut m = [0.0f32; 272];
     let q = 4 * numbers::least(64, n);
-    let mut i = from;
-    while i < to {
-        let r = bits::next_stretch(marks, i, to);
+    for r in bits::marked_stretches(marks, from, to) {
         project_stretch(part, &mut m, q, n, r.from, r.to);
-        i = r.to;
     }
     let a = read_four(&m, q);
     let b = read_four(&m, q + 4);
@@ -208,43 +201,15 @@ pub fn project(part: &[f32], marks: &[u64], n: usize, from: usize, to: usize) ->
     }
 }
 
-// A stretch of pixels, each of them marked, added to the error sums of the pixels before.
-fn errors_stretch(
-    part: &[f32],
-    n: usize,
-    from: usize,
-    to: usize,
-    lambda: f32,
-    before: Vector3,
-) -> Vector3
-    requires { (from ≤ to) × (to ≤ n) × (6 * n ≤ length part.now) }
-    ensures { let xs = part.now in
-        result ≡ over_range (λ s i. scaled_more s (j_at xs n i) (lambda ⊗ get_or xs (3 * n + i) nan ⊖ get_or xs (4 * n + i) nan)) before from (to - from) }
-{
-    let tz = 3 * n;
-    let iz = 4 * n;
-    let mut ep = before;
-    let mut i = from;
-    while i < to {
-        let e = lambda * part[tz + i] - part[iz + i];
-        ep = add_scaled(ep, j_at(part, n, i), e);
-        i += 1;
-    }
-    ep
-}
-
 // error_proj: the sums of j with e = lambda * template_zm - image_zm. All marks lie from the pixel `from` on, before `to`.
 pub fn errors(part: &[f32], marks: &[u64], n: usize, from: usize, to: usize, lambda: f32) -> Vector3
     requires { (n ≤ 16777216) × (6 * n ≤ length part.now) × (words_for n ≤ length marks.now) × Between (unpacked_of marks.now n) n from to }
     ensures { let ms = unpacked_of marks.now n in let xs = part.now in
         result ≡ proj_of ms n (image n 5 xs) (image n 0 xs) (image n 1 xs) (error_of n lambda (image n 3 xs) (image n 4 xs)) }
 {
-    let mut ep = Vector3(0.0, 0.0, 0.0);
-    let mut i = from;
-    while i < to {
-        let r = bits::next_stretch(marks, i, to);
-        ep = errors_stretch(part, n, r.from, r.to, lambda, ep);
-        i = r.to;
-    }
-    ep
+    let none = Vector3(0.0, 0.0, 0.0);
+    bits::fold_marked(marks, from, to, none, |ep, i| {
+        let e = lambda * part[3 * n + i] - part[4 * n + i];
+        add_scaled(ep, j_at(part, n, i), e)
+    })
 }

@@ -4,18 +4,17 @@
 // image. Image 2 is not looked at. The sums keep the order of the pixels, walk the pixels that all marks lie between, and go by stretches of
 // marked ones, in which no pixel is tested.
 //
-// h[0][1] and h[1][0] are the same sum, so that seven numbers are added up before lambda is known.
+// h[0][1] and h[1][0] are the same sum, so that seven numbers are added up before lambda is known. Seven fit in variables, by the fold that
+// `errors` takes too; the sixteen of crate sums want a form of their own (docs/SPEED.md), so `project` stands in both.
 #![tactic(auto)]
 
-ghost use Rattle.std.specs.Prelude.{◌≡◌, ◌+◌, ◌-◌, ◌*◌, ◌≤◌, length, get_or};
-ghost use Rattle.std.specs.Float.{nan};
+ghost use Rattle.std.specs.Prelude.{◌≡◌, ◌*◌, ◌≤◌, length};
 ghost use Rattle.lists.specs.Lists.{image};
-ghost use Rattle.lists.specs.Marked.{over_range, words_for};
-ghost use Rattle.floats.specs.F32.{◌⊖◌, ◌⊗◌};
+ghost use Rattle.lists.specs.Marked.{words_for};
 ghost use Rattle.bits.specs.Words.{unpacked_of};
 ghost use Rattle.rows.specs.Between.{Between};
 ghost use Rattle.sums.specs.Sums.{error_of};
-ghost use Rattle.sums2.specs.Steps.{seven_more, seven_at, scaled_more};
+ghost use Rattle.sums2.specs.Steps.{seven_more};
 ghost use Rattle.sums2.specs.Sums.{proj2_of, hessian2_of};
 
 use inverse2::{Matrix2, Vector2};
@@ -47,22 +46,6 @@ fn add_products(s: Seven, gx: f32, gy: f32, i: f32, t: f32) -> Seven
     )
 }
 
-// A stretch of pixels, each of them marked, added to the sums of the pixels before.
-fn project_stretch(part: &[f32], n: usize, from: usize, to: usize, before: Seven) -> Seven
-    requires { (from ≤ to) × (to ≤ n) × (5 * n ≤ length part.now) }
-    ensures { result ≡ over_range (seven_at part.now n) before from (to - from) }
-{
-    let tz = 3 * n;
-    let iz = 4 * n;
-    let mut s = before;
-    let mut i = from;
-    while i < to {
-        s = add_products(s, part[i], part[n + i], part[iz + i], part[tz + i]);
-        i += 1;
-    }
-    s
-}
-
 // h, image_proj and template_proj. All marks lie from the pixel `from` on, before `to`.
 pub fn project(part: &[f32], marks: &[u64], n: usize, from: usize, to: usize) -> Sums2
     requires { (n ≤ 16777216) × (5 * n ≤ length part.now) × (words_for n ≤ length marks.now) × Between (unpacked_of marks.now n) n from to }
@@ -71,13 +54,10 @@ pub fn project(part: &[f32], marks: &[u64], n: usize, from: usize, to: usize) ->
         × (result.image_proj ≡ proj2_of ms n (image n 0 xs) (image n 1 xs) (image n 4 xs))
         × (result.template_proj ≡ proj2_of ms n (image n 0 xs) (image n 1 xs) (image n 3 xs)) }
 {
-    let mut s = Seven(0.0, 0.0, 0.0, 0.0, 0.0, 0.0, 0.0);
-    let mut i = from;
-    while i < to {
-        let r = bits::next_stretch(marks, i, to);
-        s = project_stretch(part, n, r.from, r.to, s);
-        i = r.to;
-    }
+    let none = Seven(0.0, 0.0, 0.0, 0.0, 0.0, 0.0, 0.0);
+    let s = bits::fold_marked(marks, from, to, none, |s, i| {
+        add_products(s, part[i], part[n + i], part[4 * n + i], part[3 * n + i])
+    });
     Sums2 {
         h: Matrix2 {
             m00: s.4,
@@ -90,43 +70,15 @@ pub fn project(part: &[f32], marks: &[u64], n: usize, from: usize, to: usize) ->
     }
 }
 
-// A stretch of pixels, each of them marked, added to the error sums of the pixels before.
-fn errors_stretch(
-    part: &[f32],
-    n: usize,
-    from: usize,
-    to: usize,
-    lambda: f32,
-    before: Vector2,
-) -> Vector2
-    requires { (from ≤ to) × (to ≤ n) × (5 * n ≤ length part.now) }
-    ensures { let xs = part.now in
-        result ≡ over_range (λ s i. scaled_more s (get_or xs i nan, get_or xs (n + i) nan) (lambda ⊗ get_or xs (3 * n + i) nan ⊖ get_or xs (4 * n + i) nan)) before from (to - from) }
-{
-    let tz = 3 * n;
-    let iz = 4 * n;
-    let mut ep = before;
-    let mut i = from;
-    while i < to {
-        let e = lambda * part[tz + i] - part[iz + i];
-        ep = Vector2(ep.0 + part[i] * e, ep.1 + part[n + i] * e);
-        i += 1;
-    }
-    ep
-}
-
 // error_proj: the sums of j with e = lambda * template_zm - image_zm. All marks lie from the pixel `from` on, before `to`.
 pub fn errors(part: &[f32], marks: &[u64], n: usize, from: usize, to: usize, lambda: f32) -> Vector2
     requires { (n ≤ 16777216) × (5 * n ≤ length part.now) × (words_for n ≤ length marks.now) × Between (unpacked_of marks.now n) n from to }
     ensures { let ms = unpacked_of marks.now n in let xs = part.now in
         result ≡ proj2_of ms n (image n 0 xs) (image n 1 xs) (error_of n lambda (image n 3 xs) (image n 4 xs)) }
 {
-    let mut ep = Vector2(0.0, 0.0);
-    let mut i = from;
-    while i < to {
-        let r = bits::next_stretch(marks, i, to);
-        ep = errors_stretch(part, n, r.from, r.to, lambda, ep);
-        i = r.to;
-    }
-    ep
+    let none = Vector2(0.0, 0.0);
+    bits::fold_marked(marks, from, to, none, |ep, i| {
+        let e = lambda * part[3 * n + i] - part[4 * n + i];
+        Vector2(ep.0 + part[i] * e, ep.1 + part[n + i] * e)
+    })
 }

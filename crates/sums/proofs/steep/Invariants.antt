@@ -1,13 +1,9 @@
 -- `sums::steep` meets its contract. The loop's invariant: the rows from `first` on, before y, stand in image 5, and nothing else has changed. Assumes nothing.
-use Prim.Native.Nat.{◌+◌, ◌-◌, ◌*◌, ◌≤◌}
+use Prim.Native.Nat.{◌+◌, ◌-◌, ◌*◌}
 use mathlib.Core.Path.{◌≡◌}
-use lib.ListN.{length}
 use Rattle.lists.specs.Lists.{grid, put}
 use Rattle.sums.proofs.Rows.{rows_rule}
 use Rattle.sums.proofs.steep.Given as goal
 
 abbrev pub invariant-loop-y : goal.invariant-loop-y
-invariant-loop-y l = (l.first ≤ l.y) × (l.y ≤ l.last + 1) × (length l.part ≡ length l.initial.part) × (l.part ≡ put l.initial.part (5 * l.n + l.first * l.w) (grid l.w (l.y - l.first) (rows_rule l.initial.part l.n l.w l.ct l.st l.first)))
-
-abbrev pub decreases-loop-y : goal.decreases-loop-y
-decreases-loop-y l = l.last + 1 - l.y
+invariant-loop-y l = l.part ≡ put l.initial.part (5 * l.n + l.first * l.w) (grid l.w (l.y - l.first) (rows_rule l.initial.part l.n l.w l.ct l.st l.first))
