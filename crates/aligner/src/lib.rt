@@ -14,15 +14,13 @@ ghost use Rattle.aligner.specs.Aligner.{fresh_of, entry_of, known_of, begun_of, 
 
 use pose::Outcome;
 use refusals::Refusal;
-use settings::EccConfig;
+use settings::{EccConfig, Sides};
 
-// The settings; whether a frame is remembered, and its sides.
+// The settings, and the sides of the frame that is remembered, if there is one.
 #[derive(Clone, Copy)]
 pub struct EccAligner {
     pub cfg: EccConfig,
-    pub held: bool,
-    pub prev_w: usize,
-    pub prev_h: usize,
+    pub prev: Option<Sides>,
 }
 
 // The aligner after a frame, and the answer.
@@ -37,12 +35,7 @@ impl EccAligner {
     pub fn new(cfg: EccConfig) -> Self
         ensures { result ≡ fresh_of cfg }
     {
-        EccAligner {
-            cfg,
-            held: false,
-            prev_w: 0,
-            prev_h: 0,
-        }
+        EccAligner { cfg, prev: None }
     }
 }
 
@@ -79,13 +72,13 @@ pub fn entry(frame: usize, w: usize, h: usize, store: usize) -> Result<(), Refus
 fn known(aligner: EccAligner, w: usize, h: usize) -> Result<(), Refusal>
     ensures { result ≡ checked (known_of aligner w h) }
 {
-    if !aligner.held {
+    let Some(prev) = aligner.prev else {
         return Err(Refusal::NoPrevious);
-    }
-    if aligner.prev_w != w {
+    };
+    if prev.w != w {
         return Err(Refusal::OtherSides);
     }
-    if aligner.prev_h != h {
+    if prev.h != h {
         return Err(Refusal::OtherSides);
     }
     Ok(())
@@ -146,9 +139,7 @@ pub fn estimate(
     Reply {
         aligner: EccAligner {
             cfg,
-            held: true,
-            prev_w: w,
-            prev_h: h,
+            prev: Some(Sides { w, h }),
         },
         outcome,
     }

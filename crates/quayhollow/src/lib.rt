@@ -17,7 +17,7 @@ ghost use Rattle.boundary.specs.Boundary.{config_of, pixel_count_of, fronted, co
 ghost use Rattle.quayhollow.specs.State.{store_length_of, remembered_of, state_after};
 
 use aligner::EccAligner;
-use settings::EccConfig;
+use settings::{EccConfig, Sides};
 
 // What is remembered after a frame of w by h, by the lengths of the frame and of the store.
 fn put_state(frame: usize, w: usize, h: usize, store: usize, state: &mut [u64])
@@ -41,11 +41,14 @@ fn remembered(cfg: EccConfig, state: &[u64]) -> EccAligner
     if state.len() < 3 {
         return EccAligner::new(cfg);
     }
+    if state[0] == 0 {
+        return EccAligner::new(cfg);
+    }
+    let w = state[1] as usize;
+    let h = state[2] as usize;
     EccAligner {
         cfg,
-        held: state[0] != 0,
-        prev_w: state[1] as usize,
-        prev_h: state[2] as usize,
+        prev: Some(Sides { w, h }),
     }
 }
 

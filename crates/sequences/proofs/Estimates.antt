@@ -1,5 +1,5 @@
 -- How a call of `estimate` ends, by the check that refuses it or by the alignment's answer. Assumes nothing.
-use Rattle.std.specs.Prelude.{Ok, Err}
+use Rattle.std.specs.Prelude.{Ok, Err, Option, Some, None}
 use Prim.Native.Nat.{ℕ, ◌*◌, ◌≤◌}
 use mathlib.Core.Path.{◌≡◌, refl, sym, ap, subst, ◌∙◌}
 use mathlib.Core.Bool.{Bool, true, false, ◌&&◌, true≢false}
@@ -24,7 +24,7 @@ use Rattle.checks.proofs.Past.{past}
 use Rattle.pose.specs.Pose.{Answer, number_of, told_of}
 use Rattle.pose.specs.declared.Outcome.{Outcome}
 use Rattle.alignment.specs.Aligned.{aligned_of, work_after, marks_after}
-use Rattle.aligner.specs.Aligner.{entry_of, known_of, answer_of, estimate_of, store_after, begun_of, refused_of}
+use Rattle.aligner.specs.Aligner.{entry_of, known_of, answer_of, estimate_of, store_after, begun_of, refused_of, known_by}
 use Rattle.aligner.specs.declared.EccAligner.{EccAligner}
 use Rattle.aligner.specs.declared.Reply.{Reply}
 use Rattle.aligner.proofs.Numbers.{taken}
@@ -33,6 +33,7 @@ use Rattle.demands.proofs.Finite.{Late, FiveToTen, numbers, is_true, run_ends}
 use Rattle.sequences.specs.Estimates.{CallMemory, frame, w, h, entering, Effect, untouched, kept, cleared, effect_of, is_taken, FrameKept, Did, EstimateEnded, EstimateEnds}
 use Rattle.refusals.specs.Refusals.{number, refusal_of}
 use Rattle.refusals.specs.declared.Refusal.{Refusal}
+use Rattle.settings.specs.declared.Sides.{Sides}
 
 -- ---- what the numbers tell
 
@@ -76,11 +77,14 @@ unfolding ends_in told_of clears effect_of pick refusal_of
 twelve fits z = (tt, refl, refl)
 
 -- no previous frame, or one of other sides: the frame is kept
+told_by : (fits : Bool) (p : Option Sides) (w h : ℕ) → Number fits kept (known_by p w h)
+unfolding known_by
+told_by fits None w h = eleven fits
+told_by fits (Some s) w h = let P = Number fits kept in pick_both P _ _ _ (pick_both P _ _ _ (none fits kept) (twelve fits)) (twelve fits)
+
 known_told : (fits : Bool) (a : EccAligner) (w h : ℕ) → Number fits kept (known_of a w h)
 unfolding known_of
-known_told fits a w h =
-    let P = Number fits kept in
-    pick_both P _ _ _ (pick_both P _ _ _ (pick_both P _ _ _ (none fits kept) (twelve fits)) (twelve fits)) (eleven fits)
+known_told fits a w h = told_by fits a.prev w h
 
 one : Number true kept 1
 unfolding ends_in told_of clears effect_of pick refusal_of
@@ -159,7 +163,7 @@ module _ (x : CallMemory) (frame : List ℕ) (w h : ℕ) where
 
   -- the frame's own record
   abbrev named : EccAligner
-  named = record { cfg = x.aligner.cfg; held = true; prev_w = w; prev_h = h }
+  named = record { cfg = x.aligner.cfg; prev = Some (record { w = w; h = h }) }
 
   abbrev taken_as : List Float → List ℕ → CallMemory
   taken_as work marks = record { aligner = named; store = put x.store 0 frame; work = work; marks = marks }

@@ -35,7 +35,7 @@ module _ (c : Call) (x : Memory) where
   unfolding next_memory takes estimate_of store_after pick
   names_next l n =
       choose (eqb entry 0)
-      (λ yes. rw yes (refl, refl, refl, take_put_front x.store c.frame (c.w * c.h) (taken _ c.w c.h (length x.store) (eqb-true entry 0 yes)).2))
+      (λ yes. rw yes (refl, take_put_front x.store c.frame (c.w * c.h) (taken _ c.w c.h (length x.store) (eqb-true entry 0 yes)).2))
       (λ no. rw no (settings_aside l x c.cfg n))
 
   length_next : length (next_memory c x).store ≡ length x.store

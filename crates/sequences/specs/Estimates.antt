@@ -1,6 +1,6 @@
 -- One call of the aligner's `estimate`, as its contract admits it, and how it ends: the answer, the passes, and by the number what became of the
 -- record, the store, work and marks. Definitions only.
-use Rattle.std.specs.Prelude.{ℕ, ◌*◌, ◌≤◌, ◌≡◌, Bool, true, false, not, ◌&&◌, ◌||◌, List, ◌++◌, T, eqb, length, drop, Float}
+use Rattle.std.specs.Prelude.{ℕ, ◌*◌, ◌≤◌, ◌≡◌, Bool, true, false, not, ◌&&◌, ◌||◌, List, ◌++◌, T, eqb, length, drop, Float, Some}
 use Rattle.lists.specs.Marked.{pick}
 use Rattle.floats.specs.F32.{0f}
 use Rattle.lists.specs.Marked.{words_for}
@@ -70,7 +70,7 @@ is_taken cleared = true
 
 -- the frame is the previous one: the record names its sides, and its bytes stand at the store's front
 pub record FrameKept (frame : List ℕ) (w h : ℕ) (x y : CallMemory) : Type 0 where
-  pub record_is : y.aligner ≡ record { cfg = x.aligner.cfg; held = true; prev_w = w; prev_h = h }
+  pub record_is : y.aligner ≡ record { cfg = x.aligner.cfg; prev = Some (record { w = w; h = h }) }
   pub sized : length frame ≡ w * h
   pub room : w * h ≤ length x.store
   pub store_is : y.store ≡ frame ++ drop (w * h) x.store

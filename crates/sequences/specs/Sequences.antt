@@ -1,6 +1,6 @@
 -- Calls of `estimate` one after another. Each is handed the record and the store as the call before left them; the record's settings may be set
 -- anew before each. Work and marks may be others each time. Definitions only.
-use Rattle.std.specs.Prelude.{ℕ, ◌*◌, ◌≡◌, Bool, true, false, List, [], ◌∷◌, eqb, length, take}
+use Rattle.std.specs.Prelude.{ℕ, ◌*◌, ◌≡◌, Bool, List, [], ◌∷◌, eqb, length, take, Some, None}
 use Rattle.lists.specs.Marked.{pick}
 use Rattle.settings.specs.declared.EccConfig.{EccConfig}
 use Rattle.aligner.specs.Aligner.{entry_of, estimate_of, store_after}
@@ -21,7 +21,7 @@ pub record Memory : Type 0 where
   pub store : List ℕ
 
 abbrev pub with_settings : EccConfig → EccAligner → EccAligner
-with_settings cfg a = record { cfg = cfg; held = a.held; prev_w = a.prev_w; prev_h = a.prev_h }
+with_settings cfg a = record { cfg = cfg; prev = a.prev }
 
 -- the memory after a call, and after calls one after another
 unfoldable pub next_memory : Call → Memory → Memory
@@ -50,8 +50,8 @@ last_taken s before (c ∷ cs) = last_taken s (pick (takes s c) (frame_of c) bef
 
 -- the record names the frame, and the store begins with its bytes
 abbrev pub Names : Last → Memory → Type 0
-Names no_frame x = x.aligner.held ≡ false
-Names (frame_of c) x = (x.aligner.held ≡ true) × (x.aligner.prev_w ≡ c.w) × (x.aligner.prev_h ≡ c.h) × (take (c.w * c.h) x.store ≡ c.frame)
+Names no_frame x = x.aligner.prev ≡ None
+Names (frame_of c) x = (x.aligner.prev ≡ Some (record { w = c.w; h = c.h })) × (take (c.w * c.h) x.store ≡ c.frame)
 
 -- Where record and store hold a frame, after any calls they hold the last one that was taken
 unfoldable pub RanKeeps : Type 0

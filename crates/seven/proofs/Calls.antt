@@ -1,6 +1,6 @@
 -- No call of the alignment and none of the aligner is answered with 7, nor with any other number that neither the checks give nor the passes where rho is finite.
 -- Assumes nothing.
-use Rattle.std.specs.Prelude.{Ok, Err}
+use Rattle.std.specs.Prelude.{Ok, Err, Option, Some, None}
 use Prim.Native.Nat.{ℕ, ◌*◌}
 use mathlib.Core.Path.{◌≡◌, sym, ap, subst}
 use mathlib.Core.Bool.{Bool, true, false, not, ◌&&◌, ◌||◌}
@@ -24,7 +24,7 @@ use Rattle.pose.specs.Pose.{Answer, number_of, told_of}
 use Rattle.pose.specs.declared.Outcome.{Outcome}
 use Rattle.runs.proofs.Moves.{Refusals}
 use Rattle.alignment.specs.Aligned.{aligned_of}
-use Rattle.aligner.specs.Aligner.{entry_of, known_of, answer_of, estimate_of}
+use Rattle.aligner.specs.Aligner.{entry_of, known_of, answer_of, estimate_of, known_by}
 use Rattle.aligner.specs.declared.EccAligner.{EccAligner}
 use Rattle.aligner.specs.declared.Reply.{Reply}
 use Rattle.demands.proofs.Finite.{Late, numbers, run_among, check_ends}
@@ -33,6 +33,7 @@ use Rattle.seven.proofs.Passes.{frames_never}
 use Rattle.refusals.specs.Refusals.{number, refusal_of}
 use Rattle.lists.specs.Marked.{pick}
 use Rattle.refusals.specs.declared.Refusal.{Refusal}
+use Rattle.settings.specs.declared.Sides.{Sides}
 
 -- the numbers that the checks and the passes give where rho is finite
 abbrev pub given : ℕ → Bool
@@ -123,9 +124,14 @@ module _ (k : ℕ) (free : T (not (given k))) where
   unfolding entry_of
   entry_other t w h s = pick_both Refuses _ _ _ two (pick_both Refuses _ _ _ two (pick_both Refuses _ _ _ (pick_both Refuses _ _ _ thirteen none) one))
 
+  known_by_other : (p : Option Sides) (w h : ℕ) → Refuses (known_by p w h)
+  unfolding known_by
+  known_by_other None w h = eleven
+  known_by_other (Some s) w h = pick_both Refuses _ _ _ (pick_both Refuses _ _ _ none twelve) twelve
+
   known_other : (a : EccAligner) (w h : ℕ) → Refuses (known_of a w h)
   unfolding known_of
-  known_other a w h = pick_both Refuses _ _ _ (pick_both Refuses _ _ _ (pick_both Refuses _ _ _ none twelve) twelve) eleven
+  known_other a w h = known_by_other a.prev w h
 
   pub estimated_other : (a : EccAligner) (frame : List ℕ) (w h : ℕ) (store : List ℕ) (work marks : ℕ) → AreBytes frame → AreBytes store → NotNumber k (estimate_of a frame w h store work marks).outcome
   unfolding estimate_of answer_of

@@ -1,18 +1,20 @@
 -- What stands in the store at first does not matter: nothing is remembered, and only the bytes of a previous frame are looked at. Assumes nothing.
+use Rattle.std.specs.Prelude.{Option, Some, None}
 use Prim.Native.Nat.{ℕ, zero, suc, ◌+◌, ◌*◌}
-use mathlib.Core.Path.{◌≡◌, refl, sym, ap, ◌∙◌}
+use mathlib.Core.Path.{◌≡◌, refl, sym, ap, ap₂, subst, ◌∙◌}
 use mathlib.Core.Bool.{Bool, true, false}
 use mathlib.Core.List.{List}
 use native.Mathlib.Omega.{arith}
 use borrow.Author.Tests.{eqb-true}
 use lib.Dec.{eqb, lit≤}
 use lib.ListN.{length, take, drop}
+use Rattle.lists.specs.Lists.{put}
 use Rattle.lists.specs.Marked.{pick}
 use Rattle.lists.proofs.Cases.{pick_agree}
 use Rattle.lists.proofs.Put.{length_put, take_put_front}
 use Rattle.settings.specs.declared.EccConfig.{EccConfig}
 use Rattle.alignment.specs.Aligned.{aligned_of}
-use Rattle.aligner.specs.Aligner.{fresh_of, entry_of, known_of, answer_of, estimate_of, store_after}
+use Rattle.aligner.specs.Aligner.{fresh_of, entry_of, known_of, answer_of, estimate_of, store_after, known_by}
 use Rattle.aligner.specs.declared.EccAligner.{EccAligner}
 use Rattle.aligner.proofs.Numbers.{taken}
 use Rattle.records.specs.Reading.{next_of}
@@ -22,25 +24,36 @@ use Rattle.lines.specs.Lines.{line_of}
 use Rattle.stream.specs.Stream.{pixels_of}
 use Rattle.whole_log.specs.Log.{line, Reader, past, from, log_n, log_from}
 use Rattle.lists.proofs.Cases.{choose, passed}
+use Rattle.settings.specs.declared.Sides.{Sides}
 
 -- two stores that an aligner cannot tell apart: of one length, with the same previous frame, if there is one
 abbrev pub Alike : EccAligner → List ℕ → List ℕ → Type 0
-Alike a x y = (length x ≡ length y) × (a.held ≡ true → take (a.prev_w * a.prev_h) x ≡ take (a.prev_w * a.prev_h) y)
+Alike a x y = (length x ≡ length y) × ((s : Sides) → a.prev ≡ Some s → take (s.w * s.h) x ≡ take (s.w * s.h) y)
 
 -- ---- the aligner
 
+-- sides, or d where there are none; and 1 where there are
+abbrev sides_or : Sides → Option Sides → Sides
+sides_or d None = d
+sides_or d (Some s) = s
+
+abbrev given : Option Sides → ℕ
+given None = 0
+given (Some s) = 1
+
 -- a previous frame of the sides w and h
-remembered : (a : EccAligner) (w h : ℕ) → known_of a w h ≡ 0 → (a.held ≡ true) × (a.prev_w * a.prev_h ≡ w * h)
-unfolding known_of
-remembered a w h e =
-    let p = passed a.held _ 11 (lit≤ tt) e in
-    let q = passed (eqb a.prev_w w) _ 12 (lit≤ tt) p.1 in
-    let r = passed (eqb a.prev_h h) 0 12 (lit≤ tt) q.1 in
-    (p.0, rw (eqb-true a.prev_w w q.0, eqb-true a.prev_h h r.0))
+remembered : (p : Option Sides) (w h : ℕ) → known_by p w h ≡ 0 → p ≡ Some (record { w = w; h = h })
+unfolding known_by
+remembered None w h e = absurd (omega (arith, e))
+remembered (Some s) w h e =
+    let q = passed (eqb s.w w) _ 12 (lit≤ tt) e in
+    let r = passed (eqb s.h h) 0 12 (lit≤ tt) q.1 in
+    ap₂ (λ (a b : ℕ). Some (record { w = a; h = b })) (eqb-true s.w w q.0) (eqb-true s.h h r.0)
 
 module _ (k m : ℕ) (a : EccAligner) (frame : List ℕ) (w h : ℕ) (x y : List ℕ) (same : Alike a x y) where
   template_alike : known_of a w h ≡ 0 → take (w * h) x ≡ take (w * h) y
-  template_alike e = let r = remembered a w h e in rw (← r.1) (same.1 r.0)
+  unfolding known_of
+  template_alike e = same.1 (record { w = w; h = h }) (remembered a.prev w h e)
 
   answer_alike : answer_of a frame w h x k m ≡ answer_of a frame w h y k m
   unfolding answer_of
@@ -59,7 +72,8 @@ module _ (k m : ℕ) (a : EccAligner) (frame : List ℕ) (w h : ℕ) (x y : List
       let q = taken (length frame) w h (length x) (eqb-true _ _ e) in
       rw (← same.0, e) (
         length_put x 0 frame (omega (arith, q.2, q.3)) ∙ same.0 ∙ sym (length_put y 0 frame (omega (arith, q.2, q.3, same.0))),
-        λ z. take_put_front x frame (w * h) q.2 ∙ sym (take_put_front y frame (w * h) q.2),
+        λ s z. subst (λ (s : Sides). take (s.w * s.h) (put x 0 frame) ≡ take (s.w * s.h) (put y 0 frame)) (ap (sides_or s) z)
+            (take_put_front x frame (w * h) q.2 ∙ sym (take_put_front y frame (w * h) q.2)),
       ))
       (λ e. rw (← same.0, e) same)
 
@@ -70,7 +84,7 @@ abbrev Blind : Reader → Type 0
 Blind rec = (a : EccAligner) (x y : List ℕ) → Alike a x y → (f : ℕ) (s : List ℕ) → rec a x f s ≡ rec a y f s
 
 fresh_alike : (cfg : EccConfig) (x y : List ℕ) → length x ≡ length y → Alike (fresh_of cfg) x y
-fresh_alike cfg x y e = (e, λ z. absurd (let n : ◌≡◌ {A = ℕ} 0 1 = cc in omega arith))
+fresh_alike cfg x y e = (e, λ s z. let n : given None ≡ given (Some s) = ap given z in absurd (omega (arith, n)))
 
 module _ (k m : ℕ) (rec : Reader) (blind : Blind rec) (a : EccAligner) (x y : List ℕ) (same : Alike a x y) (f : ℕ) where
   past_alike : (large : Bool) (n : ℕ) (s : List ℕ) → past (rec a x) large n f s ≡ past (rec a y) large n f s

@@ -1,8 +1,7 @@
 -- `aligner::estimate` meets its contract: the first checks leave all as it was; else the frame is answered, then kept. Assumes nothing.
-use Rattle.std.specs.Prelude.{Err}
+use Rattle.std.specs.Prelude.{Err, Some}
 use Prim.Native.Nat.{ℕ}
 use mathlib.Core.Path.{sym, ap, ◌∙◌}
-use mathlib.Core.Bool.{true}
 use native.Mathlib.Omega.{arith}
 use borrow.Author.Tests.{eq-eqb, ne_eqb}
 use lib.ListN.{length}
@@ -43,7 +42,7 @@ returns c =
     let a = c.args in
     let yes = eq-eqb _ 0 (is_passed _ _ (sym c.in_default.is ∙ c.entry.ensures)) in
     let why = refused_later a.aligner (length a.frame.now) a.w a.h (length a.work.now) (length a.marks.now) (length a.store.now) yes in record {
-      value = ap (λ (o : Outcome). record { aligner = record { cfg = a.aligner.cfg; held = true; prev_w = a.w; prev_h = a.h }; outcome = o }) c.answer-outcome.ensures.value
+      value = ap (λ (o : Outcome). record { aligner = record { cfg = a.aligner.cfg; prev = Some (record { w = a.w; h = a.h }) }; outcome = o }) c.answer-outcome.ensures.value
           ∙ sym (pick_true _ _ _ yes);
       store_after = c.keep.ensures ∙ sym (pick_true _ _ _ yes);
       leaves = (rw why c.answer-outcome.ensures.leaves.0, rw why c.answer-outcome.ensures.leaves.1);
