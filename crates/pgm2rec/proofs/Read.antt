@@ -44,7 +44,7 @@ module _ (run : Run) (r : Ranged run.options) {t : List ℕ} (rest : Records t) 
   taken_read : (a : Answers) (w : Result Word Wrong) → Before (taken_bytes run a w)
   unfolding taken_bytes
   taken_read a (Ok (Settings o)) = rest
-  taken_read a (Ok Picture) = file_read (opened_file a.fd a.file)
+  taken_read a (Ok Picture) = file_read (opened_file a.is_open a.file)
   taken_read a (Ok Help) = rest
   taken_read a (Err k) = rest
 
@@ -76,7 +76,7 @@ module _ (run : Run) (r : Ranged run.options) where
   taken_ranged : (a : Answers) (s : List ℕ) (w : Result Word Wrong) → word_of run.options s ≡ w → Ranged (taken_run run a w).options
   unfolding taken_run
   taken_ranged a s (Ok (Settings o)) e = stays run.options s o r e
-  taken_ranged a s (Ok Picture) e = file_ranged a.out (opened_file a.fd a.file)
+  taken_ranged a s (Ok Picture) e = file_ranged a.out (opened_file a.is_open a.file)
   taken_ranged a s (Ok Help) e = r
   taken_ranged a s (Err k) e = r
 

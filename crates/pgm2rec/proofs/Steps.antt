@@ -5,9 +5,8 @@ use mathlib.Core.Bool.{Bool, true, false}
 use mathlib.Core.List.{List}
 use native.Mathlib.Omega.{arith}
 use borrow.Author.Tests.{lt-ltb, le-ltb}
-use lib.IntN.{pos}
 use lib.ListN.{length, take}
-use Rattle.std.specs.Prelude.{Option, Some, None, Result, Ok, Err}
+use Rattle.std.specs.Prelude.{Option, Some, None, Result, Ok, Err, is_ok}
 use Rattle.lists.proofs.Cases.{pick_true, pick_false}
 use Rattle.files.specs.declared.Failed.{Failed}
 use Rattle.pgm.specs.declared.Fault.{Fault}
@@ -16,7 +15,7 @@ use Rattle.options.specs.declared.Word.{Word}
 use Rattle.options.specs.declared.Word.TheVariants.{Settings, Picture, Help}
 use Rattle.options.specs.Words.{word_of}
 use Rattle.pgm2rec.specs.declared.Run.{Run}
-use Rattle.pgm2rec.specs.Course.{onward_of, stopped_of, written_of, File, Read, Unread, file_of, picture_of, sized_of, made_run, file_run, opened_file, number_of, Answers, taken_run, heard_of, heard_run, WordTold, told_run}
+use Rattle.pgm2rec.specs.Course.{onward_of, stopped_of, written_of, File, Read, Unread, file_of, picture_of, sized_of, made_run, file_run, opened_file, Answers, taken_run, heard_of, heard_run, WordTold, told_run}
 
 -- ---- a picture
 module _ (run : Run) (out : Bool) where
@@ -59,11 +58,11 @@ module _ (buf : List ℕ) {f : Result ℕ Failed} where
 
 -- ---- an open, by whether it failed
 module _ (run : Run) (out : Bool) (f : File) {F E : Type 0} {r : Result F E} where
-  pub run_closed : {e : E} → r ≡ Err e → file_run run out (opened_file (number_of r) f) ≡ stopped_of run
+  pub run_closed : {e : E} → r ≡ Err e → file_run run out (opened_file (is_ok r) f) ≡ stopped_of run
   unfolding opened_file
   run_closed q = rw q (run_unread run out)
 
-  pub run_open : {x : F} → r ≡ Ok x → file_run run out (opened_file (number_of r) f) ≡ file_run run out f
+  pub run_open : {x : F} → r ≡ Ok x → file_run run out (opened_file (is_ok r) f) ≡ file_run run out f
   unfolding opened_file
   run_open q = rw q refl
 
@@ -71,7 +70,7 @@ module _ (run : Run) (out : Bool) (f : File) {F E : Type 0} {r : Result F E} whe
 
 -- answers that nobody asks for
 abbrev pub nobody : Answers
-nobody = record { fd = pos 0; file = Unread; out = true }
+nobody = record { is_open = true; file = Unread; out = true }
 
 module _ (run : Run) (a : Answers) (buf : List ℕ) {E : Type 0} {r : Result ℕ E} where
   pub run_heard : {n : ℕ} → r ≡ Ok n → heard_run run (heard_of r buf) a ≡ taken_run run a (word_of run.options (take n buf))
@@ -101,7 +100,7 @@ next_file run out Unread = refl
 next_taken : (run : Run) (a : Answers) (w : Result Word Wrong) → (taken_run run a w).next ≡ run.next
 unfolding taken_run
 next_taken run a (Ok (Settings o)) = refl
-next_taken run a (Ok Picture) = next_file run a.out (opened_file a.fd a.file)
+next_taken run a (Ok Picture) = next_file run a.out (opened_file a.is_open a.file)
 next_taken run a (Ok Help) = refl
 next_taken run a (Err k) = refl
 

@@ -1,5 +1,5 @@
 -- What each word makes of a run, by what the system answers. Definitions only.
-use Rattle.std.specs.Prelude.{ℕ, ◌+◌, ◌≡◌, Bool, true, false, List, [], ◌++◌, ltb, ℤ, pos, negsuc, length, take, Option, Some, None, Result, Ok, Err}
+use Rattle.std.specs.Prelude.{ℕ, ◌+◌, ◌≡◌, Bool, true, false, List, [], ◌++◌, ltb, length, take, Option, Some, None, Result, Ok, Err}
 use Rattle.lists.specs.Marked.{pick}
 use Rattle.settings.specs.Settings.{defaults_of}
 use Rattle.encode.specs.Bytes.{settings_bytes}
@@ -95,10 +95,9 @@ pub record Shown (run : Run) (l : List ℕ) : Type 0 where
 
 -- ---- words
 
--- what the system answers at a word that names a picture: the file's number, negative where it can't be opened; the file as it was read; whether what was
--- written went out
+-- what the system answers at a word that names a picture: whether the file could be opened; the file as it was read; whether what was written went out
 pub record Answers : Type 0 where
-  pub fd : ℤ
+  pub is_open : Bool
   pub file : File
   pub out : Bool
 
@@ -108,32 +107,27 @@ pub record WordTold : Type 0 where
   pub answers : Answers
 
 -- no file is read that is not open
-unfoldable pub opened_file : ℤ → File → File
-opened_file (pos k) f = f
-opened_file (negsuc k) f = Unread
+unfoldable pub opened_file : Bool → File → File
+opened_file true f = f
+opened_file false f = Unread
 
--- what an open answers, as a number: negative where it failed
-abbrev pub number_of : {F E : Type 0} → Result F E → ℤ
-number_of (Ok f) = pos 0
-number_of (Err e) = negsuc 0
-
--- after an open that answered fd: the file is as it was read into a buffer of 65,536 bytes, which holds buf afterwards
-pub record Opened (run : Run) (fd : ℤ) (buf : List ℕ) (r : Run) : Type 0 where
+-- after an open, by whether it went well: the file is as it was read into a buffer of 65,536 bytes, which holds buf afterwards
+pub record Opened (run : Run) (is_open : Bool) (buf : List ℕ) (r : Run) : Type 0 where
   pub file : Result ℕ Failed
   pub gathered : Gathered 65536 (Over file)
   pub out : Bool
-  pub after : r ≡ file_run run out (opened_file fd (file_of file buf))
+  pub after : r ≡ file_run run out (opened_file is_open (file_of file buf))
 
 -- by what the word is
 unfoldable pub taken_run : Run → Answers → Result Word Wrong → Run
 taken_run run a (Ok (Settings o)) = changed_of run o
-taken_run run a (Ok Picture) = file_run run a.out (opened_file a.fd a.file)
+taken_run run a (Ok Picture) = file_run run a.out (opened_file a.is_open a.file)
 taken_run run a (Ok Help) = stopped_of run
 taken_run run a (Err k) = stopped_of run
 
 unfoldable pub taken_bytes : Run → Answers → Result Word Wrong → List ℕ
 taken_bytes run a (Ok (Settings o)) = []
-taken_bytes run a (Ok Picture) = file_bytes run (opened_file a.fd a.file)
+taken_bytes run a (Ok Picture) = file_bytes run (opened_file a.is_open a.file)
 taken_bytes run a (Ok Help) = []
 taken_bytes run a (Err k) = []
 

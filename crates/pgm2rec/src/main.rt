@@ -9,14 +9,14 @@
 // What the system answers is handed to a function whose contract settles what comes of it: `heard`, `opened`, `filled`, `written`.
 #![tactic(auto)]
 
-ghost use Rattle.std.specs.Prelude.{◌≡◌, Bool, ◌&&◌, ◌++◌, ◌+◌, ◌≤◌, ◌<◌, length};
+ghost use Rattle.std.specs.Prelude.{◌≡◌, Bool, ◌&&◌, ◌++◌, ◌+◌, ◌≤◌, ◌<◌, length, is_ok};
 ghost use Rattle.std.specs.Io.{WritesAtMost};
 ghost use Rattle.lists.specs.Lists.{put};
 ghost use Rattle.options.specs.Words.{word_of};
 ghost use Rattle.pgm.specs.Pgm.{header_of};
 ghost use Rattle.pgm.specs.Frame.{record_of};
 ghost use Rattle.files.specs.Fill.{count_of};
-ghost use Rattle.pgm2rec.specs.Course.{fresh_run, onward_of, stopped_of, changed_of, written_of, due_of, picture_of, sized_of, File, file_of, file_run, Shown, Opened, Answers, opened_file, taken_run, heard_of, heard_run, WordTold, told_run, number_of};
+ghost use Rattle.pgm2rec.specs.Course.{fresh_run, onward_of, stopped_of, changed_of, written_of, due_of, picture_of, sized_of, File, file_of, file_run, Shown, Opened, Answers, opened_file, taken_run, heard_of, heard_run, WordTold, told_run};
 ghost use Rattle.pgm2rec.specs.Whole.{Walked};
 
 use files::Failed;
@@ -195,7 +195,7 @@ fn opened(
     out: &mut [u8],
 ) -> Run
     requires { (length buf.old ≡ 65536) × (length out.old ≡ 65556) }
-    ensures { Opened run (number_of input) buf.new result }
+    ensures { Opened run (is_ok input) buf.new result }
 {
     match input {
         Err(e) => refuse(rt, run, path, e),
@@ -208,15 +208,16 @@ fn opened(
 
 // Opens the file of that name. std takes a name as text, so one that is not UTF-8 can't be opened.
 fn open(rt: &HostRuntime, path: &[u8]) -> io::Result<fs::File> {
-    match str::from_utf8(path) {
-        Ok(name) => fs::File::open(rt, name),
-        Err(_) => Err(Error::new(ErrorKind::InvalidInput, "the name is not UTF-8")),
-    }
+    let name = str::from_utf8(path).map_err(|_| Error::new(
+        ErrorKind::InvalidInput,
+        "the name is not UTF-8",
+    ))?;
+    fs::File::open(rt, name)
 }
 
 // The picture of a file.
 fn picture(rt: &HostRuntime, run: Run, path: &[u8]) -> Run
-    ensures { (a : Answers) × (result ≡ file_run run a.out (opened_file a.fd a.file)) }
+    ensures { (a : Answers) × (result ≡ file_run run a.out (opened_file a.is_open a.file)) }
 {
     let mut input = [0u8; 65536];
     let mut output = [0u8; 65556];
