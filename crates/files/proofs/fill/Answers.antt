@@ -12,17 +12,17 @@ pub returns-in_err-more : goal.returns-in_err-more
 returns-in_err-more g c =
     let i = c.loop-count.invariant in
     let p = err_from_is_err_and c.from_residual.result c.from_residual.ensures.1 in
-    rw (p.1, p.2, ← i.same_size) (grown_failed (length c.loop-count.buf) c.loop-count-test.true i.gathered c.read_on.ensures.grown _ c.in_err-more.was)
+    rw (p.1, p.2, ← i.same_size) (grown_failed (length c.loop-count.buf) (omega arith) i.gathered c.read_on.ensures.grown _ c.in_err-more.was)
 
 pub returns-in_default : goal.returns-in_default
 returns-in_default g c =
     let i = c.loop-count.invariant in
-    rw (← i.same_size) (grown_end (length c.loop-count.buf) c.loop-count-test.true i.gathered c.read_on.ensures.grown (c.in_ok-more.was ∙ ap Ok c.in_default.is), i.in_range)
+    rw (← i.same_size) (grown_end (length c.loop-count.buf) (omega arith) i.gathered c.read_on.ensures.grown (c.in_ok-more.was ∙ ap Ok c.in_default.is), i.in_range)
 
 pub loop-count-smaller : goal.loop-count-smaller
 loop-count-smaller g c =
     let i = c.loop-count.invariant in
-    let b = grown_by (length c.loop-count.buf) c.loop-count-test.true i.gathered c.read_on.ensures.grown c.in-Some.more (c.in_ok-more.was ∙ ap Ok c.in-Some.is) in
+    let b = grown_by (length c.loop-count.buf) (omega arith) i.gathered c.read_on.ensures.grown c.in-Some.more (c.in_ok-more.was ∙ ap Ok c.in-Some.is) in
     omega (arith, b.0, b.1, i.same_size)
 
 pub loop-count-preserved : goal.loop-count-preserved
@@ -31,8 +31,8 @@ loop-count-preserved g c =
     let k : length c.read_on.new.buf ≡ length c.loop-count.buf = search rules in
     let e = c.in_ok-more.was ∙ ap Ok c.in-Some.is in
     record {
-      gathered = rw k (grown_more (length c.loop-count.buf) c.loop-count-test.true i.gathered c.read_on.ensures.grown c.in-Some.more e);
-      in_range = rw k (grown_by (length c.loop-count.buf) c.loop-count-test.true i.gathered c.read_on.ensures.grown c.in-Some.more e).1;
+      gathered = rw k (grown_more (length c.loop-count.buf) (omega arith) i.gathered c.read_on.ensures.grown c.in-Some.more e);
+      in_range = rw k (grown_by (length c.loop-count.buf) (omega arith) i.gathered c.read_on.ensures.grown c.in-Some.more e).1;
       same_size = k ∙ i.same_size;
     }
 
