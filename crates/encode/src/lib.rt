@@ -12,8 +12,8 @@ fn put_half(out: &mut [u8], at: usize, n: usize)
     requires { at + 2 ≤ length out.old }
     ensures { out.new ≡ put out.old at (half_bytes n) }
 {
-    out[at] = (n % 256) as u8;
-    out[at + 1] = (n / 256 % 256) as u8;
+    let low = (n % 65536) as u16;
+    out[at..at + 2].copy_from_slice(&low.to_le_bytes());
 }
 
 // The low 32 bits of n, low byte first.
@@ -21,8 +21,8 @@ fn put_word(out: &mut [u8], at: usize, n: usize)
     requires { at + 4 ≤ length out.old }
     ensures { out.new ≡ put out.old at (word_bytes n) }
 {
-    put_half(out, at, n);
-    put_half(out, at + 2, n / 65536);
+    let low = (n % 4294967296) as u32;
+    out[at..at + 4].copy_from_slice(&low.to_le_bytes());
 }
 
 // The length and the kind of a record with a body of so many bytes.

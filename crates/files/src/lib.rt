@@ -3,70 +3,61 @@
 // What each read answers goes to `after_read`, whose contract settles what comes of it.
 #![tactic(auto)]
 
-ghost use Rattle.std.specs.Prelude.{◌≡◌, true, ◌+◌, ◌≤◌, ◌<◌, length, take};
-ghost use Rattle.files.specs.Fill.{Moved, answer_of, empty_of, after_read, Grown, Gathered};
+ghost use Rattle.std.specs.Prelude.{◌≡◌, ◌-◌, ◌≤◌, length, take, Some, codes};
+ghost use Rattle.files.specs.Fill.{Moved, answer_of, after_read, Grown, Over, Gathered, count_of};
 
-use std::io;
+use std::error::Error;
 use std::io::Read;
+use std::{fmt, io};
 
-// The first bytes of a buffer are a file's, as far as it was read.
-#[derive(Clone, Copy)]
-pub struct Filled {
+// A read failed, behind so many bytes.
+#[derive(Clone, Copy, Debug, PartialEq, Eq)]
+pub struct Failed {
     pub count: usize,
-    // No read has failed.
-    pub is_read: bool,
-    // No read follows.
-    pub is_over: bool,
 }
 
-// Before the first read, with a buffer of so many bytes: one of none is full.
-fn empty(size: usize) -> Filled
-    ensures { result ≡ empty_of size }
-{
-    Filled {
-        count: 0,
-        is_read: true,
-        is_over: size == 0,
+impl fmt::Display for Failed {
+    ghost output = { λ _. Some (codes "a read of it failed") };
+
+    fn fmt<W: fmt::Write>(&self, f: &mut fmt::Formatter<W>) -> fmt::Result {
+        f.write_str("a read of it failed")
     }
 }
 
-// After a read behind n bytes, which had room for so many more and answered got.
-fn after_read(n: usize, room: usize, got: io::Result<usize>) -> Filled
-    requires { Moved room (answer_of got) × (n + room < 18446744073709551616) }
-    ensures { result ≡ after_read n room (answer_of got) }
+impl Error for Failed {}
+
+// After a read behind n bytes, which answered got: how many bytes are held, or none where the file has ended.
+#[tactic(auto, unfolding(crate::specs::Fill::after_read, lists::specs::Marked::pick))]
+fn after_read(n: usize, got: io::Result<usize>) -> Result<Option<usize>, Failed>
+    requires { Moved (18446744073709551615 - n) (answer_of got) }
+    ensures { result ≡ after_read n (answer_of got) }
 {
     match got {
-        Err(_) => Filled {
-            count: n,
-            is_read: false,
-            is_over: true,
-        },
-        Ok(k) => Filled {
-            count: n + k,
-            is_read: true,
-            is_over: k == 0 || k == room,
-        },
+        Err(_) => Err(Failed { count: n }),
+        Ok(0) => Ok(None),
+        Ok(k) => Ok(Some(n + k)),
     }
 }
 
-// One read, into what follows the bytes that are held.
-fn read_on<R: Read>(input: &mut R, held: Filled, buf: &mut [u8]) -> Filled
-    requires { held.count ≤ length buf.old }
-    ensures grown { Grown (length buf.old) held result }
-    ensures buf_unchanged { take held.count buf.new ≡ take held.count buf.old }
+// One read, into what follows the n bytes that are held.
+fn read_on<R: Read>(input: &mut R, n: usize, buf: &mut [u8]) -> Result<Option<usize>, Failed>
+    requires { n ≤ length buf.old }
+    ensures grown { Grown (length buf.old) n result }
+    ensures buf_unchanged { take n buf.new ≡ take n buf.old }
 {
-    let n = held.count;
-    let room = buf.len() - n;
-    after_read(n, room, input.read(&mut buf[n..]))
+    after_read(n, input.read(&mut buf[n..]))
 }
 
-// Reads until no read follows.
-pub fn fill<R: Read>(input: &mut R, buf: &mut [u8]) -> Filled
-    ensures { Gathered (length buf.old) result × (result.is_over ≡ true) × (result.count ≤ length buf.old) }
+// Reads until no read follows, and answers how many bytes are held.
+pub fn fill<R: Read>(input: &mut R, buf: &mut [u8]) -> Result<usize, Failed>
+    ensures { Gathered (length buf.old) (Over result) × (count_of result ≤ length buf.old) }
 {
-    let mut held = empty(buf.len());
-    while !held.is_over {
-        held = read_on(input, held, buf);
+    let mut count = 0;
+    while count < buf.len() {
+        let Some(more) = read_on(input, count, buf)? else {
+            return Ok(count);
+        };
+        count = more;
     }
-    held
+    Ok(count)
 }

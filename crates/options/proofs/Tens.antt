@@ -1,9 +1,8 @@
 -- Powers of ten up to the seventh, and the f32 nearest to a number over one of them. Assumes nothing.
-use Prim.Native.Nat.{ℕ, ◌+◌, ◌*◌, ◌^◌, ◌≤◌, ◌<◌}
-use mathlib.Core.Path.{◌≡◌, sym, ap, ◌∙◌}
+use Prim.Native.Nat.{ℕ, ◌*◌, ◌^◌, ◌≤◌, ◌<◌}
+use mathlib.Core.Path.{◌≡◌, ap, ◌∙◌}
 use mathlib.Core.Bool.{false}
-use native.Mathlib.Nat.{pow-suc, pow-le-pow_right, one-le-pow, mul-one, one-mul}
-use native.Mathlib.Numerals.{add-one}
+use native.Mathlib.Nat.{pow-le-pow_right, one-le-pow, mul-one, one-mul}
 use native.Mathlib.Omega.{arith}
 use lib.IntN.{pos}
 use lib.Ieee.{Float, binary32, round, div, of_int}
@@ -11,9 +10,6 @@ use Rattle.floats.proofs.Exactly.{whole_is, div_value}
 
 pub tens : (k n : ℕ) → k ≤ n → 10 ^ k ≤ 10 ^ n
 tens k n h = pow-le-pow_right (omega arith) h
-
-pub ten_more : (p i : ℕ) → p ≡ 10 ^ i → p * 10 ≡ 10 ^ (i + 1)
-ten_more p i e = ap (λ (z : ℕ). z * 10) e ∙ sym (pow-suc 10 i) ∙ ap (λ (z : ℕ). 10 ^ z) (sym (add-one i))
 
 -- both are f32 exactly, so one division rounds once
 over : (n p : ℕ) → n ≤ 16777216 → 0 < p → p ≤ 16777216 → div binary32 (of_int binary32 (pos n)) (of_int binary32 (pos p)) ≡ round binary32 false n p

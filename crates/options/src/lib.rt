@@ -1,18 +1,13 @@
 // The words of a command line: settings, or a picture's name. Any bytes may be handed in.
 #![tactic(auto)]
 
-ghost use Rattle.std.specs.Prelude.{◌≡◌, ◌+◌, ◌≤◌, ◌<◌, ◌^◌, length, drop};
+ghost use Rattle.std.specs.Prelude.{◌≡◌, ◌+◌, ◌≤◌, ◌<◌, length, drop, Some};
 ghost use Rattle.settings.specs.Settings.{defaults_of};
-ghost use Rattle.options.specs.Words.{begins as Words·begins, whole_of, ratio_of, exponent_of, tail_of, behind_of, eps_of, on_value, with_eps, with_passes, with_filter, with_edge, other_of, word_of, options_of};
+ghost use Rattle.options.specs.Words.{begins, whole_of, ratio_of, exponent_of, tail_of, behind_of, eps_of, other_of, word_of, options_of, wrong_text};
 
 use settings::EccConfig;
-
-// A number, or why there is none, by the table of specs/Words.antt.
-#[derive(Clone, Copy)]
-pub enum Value {
-    Is(usize),
-    Wrong(u8),
-}
+use std::error::Error;
+use std::fmt;
 
 // The numbers of a settings record, as its fields hold them: the bits of eps, max_iter, the filter's size and the edge, 0 for none.
 #[derive(Clone, Copy)]
@@ -23,100 +18,108 @@ pub struct Options {
     pub edge: usize,
 }
 
-// What a word is: settings that were changed, a picture's name, or neither, and why, by the same table.
+// What a word is: settings that were changed, a picture's name, or a wish for the usage.
 #[derive(Clone, Copy)]
-pub enum Taken {
+pub enum Word {
     Settings(Options),
     Picture,
-    Bad(u8),
+    Help,
 }
 
-// Whether s begins with p.
-fn begins(s: &[u8], p: &[u8]) -> bool
-    ensures { result ≡ Words·begins s.now p.now }
-{
-    let mut i = 0;
-    while i < p.len() {
-        if i >= s.len() {
-            return false;
-        }
-        if s[i] != p[i] {
-            return false;
-        }
-        i += 1;
-    }
-    true
+// Why a word is none of these, by the table of specs/Words.antt.
+#[derive(Clone, Copy, Debug, PartialEq, Eq)]
+pub enum Wrong {
+    NoSetting,
+    NoWhole,
+    LargeWhole,
+    NoDecimal,
+    ManyPlaces,
+    LargeDecimal,
 }
+
+impl fmt::Display for Wrong {
+    ghost output = { λ wrong. Some (wrong_text wrong) };
+
+    fn fmt<W: fmt::Write>(&self, f: &mut fmt::Formatter<W>) -> fmt::Result {
+        match self {
+            Wrong::NoSetting => f.write_str(
+                "no such setting; there are --eps=, --max-iter=, --filter=, --edge=",
+            ),
+            Wrong::NoWhole => f.write_str("no whole number such as 3 behind the ="),
+            Wrong::LargeWhole => f.write_str(
+                "too large; at most 65535 for --filter, 4294967295 for --max-iter and --edge",
+            ),
+            Wrong::NoDecimal => f.write_str("no decimal number such as 0.0001, .5 or 1e-4"),
+            Wrong::ManyPlaces => f.write_str(
+                "too many digits; at most 7 behind the point, and e-4 counts as 4",
+            ),
+            Wrong::LargeDecimal => f.write_str("too large; at most 16777216 without its point"),
+        }
+    }
+}
+
+impl Error for Wrong {}
 
 // Whether p stands at index at.
 fn stands(s: &[u8], at: usize, p: &[u8]) -> bool
     requires { at ≤ length s.now }
-    ensures { result ≡ Words·begins (drop at s.now) p.now }
+    ensures { result ≡ begins (drop at s.now) p.now }
 {
-    begins(&s[at..], p)
+    s[at..].starts_with(p)
 }
 
 // A whole number in decimal that fills the word from index at on.
-fn whole(s: &[u8], at: usize, most: usize) -> Value
+#[tactic(auto, unfolding(crate::specs::Words::whole_of, lists::specs::Marked::pick))]
+fn whole(s: &[u8], at: usize, most: usize) -> Result<usize, Wrong>
     requires { most ≤ 4294967295 }
     ensures { result ≡ whole_of s.now at most }
 {
     if at >= s.len() {
-        return Value::Wrong(3);
+        return Err(Wrong::NoWhole);
     }
     let d = scan::digits_at(s, at, 0, most + 1);
     if d.next != s.len() {
-        return Value::Wrong(3);
+        return Err(Wrong::NoWhole);
     }
     if d.value > most {
-        return Value::Wrong(4);
+        return Err(Wrong::LargeWhole);
     }
-    Value::Is(d.value)
-}
-
-fn power(k: usize) -> usize
-    requires { k ≤ 7 }
-    ensures { (result ≡ 10 ^ k) × (result ≤ 10000000) }
-{
-    let mut p = 1;
-    let mut i = 0;
-    while i < k {
-        p *= 10;
-        i += 1;
-    }
-    p
+    Ok(d.value)
 }
 
 // The bits of n / 10^k.
-fn ratio(n: usize, k: usize) -> Value
+#[tactic(auto, unfolding(crate::specs::Words::ratio_of, lists::specs::Marked::pick))]
+fn ratio(n: usize, k: usize) -> Result<usize, Wrong>
     ensures { result ≡ ratio_of n k }
 {
     if k > 7 {
-        return Value::Wrong(6);
+        return Err(Wrong::ManyPlaces);
     }
     if n > 16777216 {
-        return Value::Wrong(7);
+        return Err(Wrong::LargeDecimal);
     }
-    Value::Is(numbers::to_bits(numbers::to_f32(n) / numbers::to_f32(power(k))) as usize)
+    Ok(numbers::to_bits(numbers::to_f32(n) / numbers::to_f32(10usize.pow(k as u32))) as usize)
 }
 
 // The digits of an exponent, which fill the word from index at on. What stands before it is n / 10^k.
-fn exponent(s: &[u8], at: usize, n: usize, k: usize) -> Value
+#[tactic(auto, unfolding(crate::specs::Words::exponent_of, lists::specs::Marked::pick))]
+fn exponent(s: &[u8], at: usize, n: usize, k: usize) -> Result<usize, Wrong>
     requires { k ≤ at }
     ensures { result ≡ exponent_of s.now at n k }
 {
     if at >= s.len() {
-        return Value::Wrong(5);
+        return Err(Wrong::NoDecimal);
     }
     let m = scan::digits_at(s, at, 0, 8);
     if m.next != s.len() {
-        return Value::Wrong(5);
+        return Err(Wrong::NoDecimal);
     }
     ratio(n, k + m.value)
 }
 
 // The end of the word at index at, or an exponent. What stands before it is n / 10^k.
-fn tail(s: &[u8], at: usize, n: usize, k: usize) -> Value
+#[tactic(auto, unfolding(crate::specs::Words::tail_of, lists::specs::Marked::pick))]
+fn tail(s: &[u8], at: usize, n: usize, k: usize) -> Result<usize, Wrong>
     requires { (at ≤ length s.now) × (k ≤ at) }
     ensures { result ≡ tail_of s.now at n k }
 {
@@ -126,23 +129,25 @@ fn tail(s: &[u8], at: usize, n: usize, k: usize) -> Value
     if stands(s, at, b"e-") || stands(s, at, b"E-") {
         return exponent(s, at + 2, n, k);
     }
-    Value::Wrong(5)
+    Err(Wrong::NoDecimal)
 }
 
 // The digits from index at on, behind a point and the number before it, which begins at index first.
-fn behind(s: &[u8], first: usize, at: usize, before: usize) -> Value
+#[tactic(auto, unfolding(crate::specs::Words::behind_of, lists::specs::Marked::pick))]
+fn behind(s: &[u8], first: usize, at: usize, before: usize) -> Result<usize, Wrong>
     requires { (first < at) × (at ≤ length s.now) × (before ≤ 16777217) }
     ensures { result ≡ behind_of s.now first at before }
 {
     let d = scan::digits_at(s, at, before, 16777217);
     if d.next <= first + 1 {
-        return Value::Wrong(5);
+        return Err(Wrong::NoDecimal);
     }
     tail(s, d.next, d.value, d.next - at)
 }
 
 // A decimal number that fills the word from index at on, as the bits of the nearest f32.
-fn eps(s: &[u8], at: usize) -> Value
+#[tactic(auto, unfolding(crate::specs::Words::eps_of, lists::specs::Marked::pick))]
+fn eps(s: &[u8], at: usize) -> Result<usize, Wrong>
     requires { at ≤ length s.now }
     ensures { result ≡ eps_of s.now at }
 {
@@ -151,101 +156,45 @@ fn eps(s: &[u8], at: usize) -> Value
         return behind(s, at, d.next + 1, d.value);
     }
     if d.next <= at {
-        return Value::Wrong(5);
+        return Err(Wrong::NoDecimal);
     }
     tail(s, d.next, d.value, 0)
 }
 
-// The settings with the number of the word.
-fn with_eps(o: Options, s: &[u8]) -> Taken
-    requires { 6 ≤ length s.now }
-    ensures { result ≡ on_value (eps_of s.now 6) (with_eps o) }
-{
-    let value = eps(s, 6);
-    match value {
-        Value::Wrong(k) => Taken::Bad(k),
-        Value::Is(n) => Taken::Settings(Options {
-            eps: n,
-            passes: o.passes,
-            filter: o.filter,
-            edge: o.edge,
-        }),
-    }
-}
-
-fn with_passes(o: Options, s: &[u8]) -> Taken
-    ensures { result ≡ on_value (whole_of s.now 11 4294967295) (with_passes o) }
-{
-    let value = whole(s, 11, 4294967295);
-    match value {
-        Value::Wrong(k) => Taken::Bad(k),
-        Value::Is(n) => Taken::Settings(Options {
-            eps: o.eps,
-            passes: n,
-            filter: o.filter,
-            edge: o.edge,
-        }),
-    }
-}
-
-fn with_filter(o: Options, s: &[u8]) -> Taken
-    ensures { result ≡ on_value (whole_of s.now 9 65535) (with_filter o) }
-{
-    let value = whole(s, 9, 65535);
-    match value {
-        Value::Wrong(k) => Taken::Bad(k),
-        Value::Is(n) => Taken::Settings(Options {
-            eps: o.eps,
-            passes: o.passes,
-            filter: n,
-            edge: o.edge,
-        }),
-    }
-}
-
-fn with_edge(o: Options, s: &[u8]) -> Taken
-    ensures { result ≡ on_value (whole_of s.now 7 4294967295) (with_edge o) }
-{
-    let value = whole(s, 7, 4294967295);
-    match value {
-        Value::Wrong(k) => Taken::Bad(k),
-        Value::Is(n) => Taken::Settings(Options {
-            eps: o.eps,
-            passes: o.passes,
-            filter: o.filter,
-            edge: n,
-        }),
-    }
-}
-
 // A word that is no setting.
-fn other(s: &[u8]) -> Taken
+#[tactic(auto, using(crate::proofs::Prefix::begins_is), unfolding(crate::specs::Words::other_of, lists::specs::Marked::pick))]
+fn other(s: &[u8]) -> Result<Word, Wrong>
     ensures { result ≡ other_of s.now }
 {
-    if begins(s, b"--help") {
-        return Taken::Bad(1);
+    if s.starts_with(b"--help") {
+        return Ok(Word::Help);
     }
-    if begins(s, b"--") {
-        return Taken::Bad(2);
+    if s.starts_with(b"--") {
+        return Err(Wrong::NoSetting);
     }
-    Taken::Picture
+    Ok(Word::Picture)
 }
 
 // What a word is, with the settings so far.
-pub fn take_word(o: Options, s: &[u8]) -> Taken
+#[tactic(auto, using(crate::proofs::Prefix::begins_is), unfolding(crate::specs::Words::word_of, crate::specs::Words::on_value, lists::specs::Marked::pick))]
+pub fn take_word(o: Options, s: &[u8]) -> Result<Word, Wrong>
     ensures { result ≡ word_of o s.now }
 {
-    if begins(s, b"--eps=") {
-        return with_eps(o, s);
+    if s.starts_with(b"--eps=") {
+        let eps = eps(s, 6)?;
+        return Ok(Word::Settings(Options { eps, ..o }));
     }
-    if begins(s, b"--max-iter=") {
-        return with_passes(o, s);
+    if s.starts_with(b"--max-iter=") {
+        let passes = whole(s, 11, 4294967295)?;
+        return Ok(Word::Settings(Options { passes, ..o }));
     }
-    if begins(s, b"--filter=") {
-        return with_filter(o, s);
+    if s.starts_with(b"--filter=") {
+        let filter = whole(s, 9, 65535)?;
+        return Ok(Word::Settings(Options { filter, ..o }));
     }
-    if begins(s, b"--edge=") {
-        return with_edge(o, s);
+    if s.starts_with(b"--edge=") {
+        let edge = whole(s, 7, 4294967295)?;
+        return Ok(Word::Settings(Options { edge, ..o }));
     }
     other(s)
 }

@@ -13,8 +13,9 @@ use Rattle.lists.specs.Lists.{put}
 use Rattle.lists.proofs.Cases.{pick_true, pick_false}
 use Rattle.lists.proofs.Put.{set_put, put_none}
 use Rattle.scan.specs.declared.Digits.{Digits}
-use Rattle.pgm.specs.declared.Found.{Found}
-use Rattle.pgm.specs.declared.Found.TheVariants.{Number, Nothing}
+use Rattle.std.specs.Prelude.{Option, Some, None, Result, Ok, Err}
+use Rattle.pgm.specs.declared.Fault.{Fault}
+use Rattle.pgm.specs.declared.Fault.TheVariants.{Missing, Above}
 use Rattle.pgm.specs.Frame.{pixel_at, gray_pixels_of, fault_of}
 use Rattle.pgm.proofs.Founds.{no_number, a_number}
 
@@ -22,25 +23,25 @@ module _ (plain : Bool) (max : ℕ) (s : List ℕ) where
   abbrev pixels : ℕ → ℕ → List ℕ
   pixels a n = gray_pixels_of plain max s a n
 
-  abbrev fault : ℕ → ℕ → ℕ
+  abbrev fault : ℕ → ℕ → Result (Unit {0}) Fault
   fault a n = fault_of plain max s a n
 
   -- ---- the first of them: missing, too large, or a pixel
-  module _ (a m : ℕ) {f : Found} (e : f ≡ pixel_at plain s a) where
-    missing_pixels : f ≡ Nothing → pixels a (suc m) ≡ []
+  module _ (a m : ℕ) {f : Option Digits} (e : f ≡ pixel_at plain s a) where
+    missing_pixels : f ≡ None → pixels a (suc m) ≡ []
     unfolding gray_pixels_of
     missing_pixels n = no_number _ _ e n
 
-    missing_fault : f ≡ Nothing → fault a (suc m) ≡ 6
+    missing_fault : f ≡ None → fault a (suc m) ≡ Err Missing
     unfolding fault_of
     missing_fault n = no_number _ _ e n
 
-    module _ (d : Digits) (n : f ≡ Number d) where
+    module _ (d : Digits) (n : f ≡ Some d) where
       large_pixels : max < d.value → pixels a (suc m) ≡ []
       unfolding gray_pixels_of
       large_pixels h = a_number _ _ e d n ∙ pick_true _ _ _ (lt-ltb max d.value h)
 
-      large_fault : max < d.value → fault a (suc m) ≡ 7
+      large_fault : max < d.value → fault a (suc m) ≡ Err Above
       unfolding fault_of
       large_fault h = a_number _ _ e d n ∙ pick_true _ _ _ (lt-ltb max d.value h)
 
@@ -56,7 +57,7 @@ module _ (plain : Bool) (max : ℕ) (s : List ℕ) where
   unfolding gray_pixels_of
   no_pixels a = refl
 
-  pub no_fault : (a : ℕ) → fault a 0 ≡ 0
+  pub no_fault : (a : ℕ) → fault a 0 ≡ Ok tt
   unfolding fault_of
   no_fault a = refl
 
@@ -89,24 +90,24 @@ module _ {plain : Bool} {max : ℕ} {s : List ℕ} {at n : ℕ} {xs ys : List �
       let l : length all - i ≡ 0 = sym (length-drop i all) ∙ ap (λ (z : List ℕ). length z) e in
       r.done ∙ ap (put xs 10) (take_all i all (omega (arith, r.some)))
 
-  pub filled_end : n ≤ i → (0 ≡ fault_of plain max s at n) × (ys ≡ put xs 10 all)
+  pub filled_end : n ≤ i → (Ok tt ≡ fault_of plain max s at n) × (ys ≡ put xs 10 all)
   filled_end h =
       let e : n - i ≡ 0 = omega arith in
       (sym (no_fault plain max s a) ∙ ap (fault_of plain max s a) (sym e) ∙ r.fault, stopped (r.rest ∙ ap (gray_pixels_of plain max s a) e ∙ no_pixels plain max s a))
 
-  module _ (h : i < n) {f : Found} (e : f ≡ pixel_at plain s a) where
+  module _ (h : i < n) {f : Option Digits} (e : f ≡ pixel_at plain s a) where
     abbrev left : ℕ
     left = n - suc i
 
     count : n - i ≡ suc left
     count = omega arith
 
-    pub filled_missing : f ≡ Nothing → (6 ≡ fault_of plain max s at n) × (ys ≡ put xs 10 all)
+    pub filled_missing : f ≡ None → (Err Missing ≡ fault_of plain max s at n) × (ys ≡ put xs 10 all)
     filled_missing m =
         (sym (missing_fault plain max s a left e m) ∙ ap (fault_of plain max s a) (sym count) ∙ r.fault, stopped (r.rest ∙ ap (gray_pixels_of plain max s a) count ∙ missing_pixels plain max s a left e m))
 
-    module _ (d : Digits) (m : f ≡ Number d) where
-      pub filled_large : max < d.value → (7 ≡ fault_of plain max s at n) × (ys ≡ put xs 10 all)
+    module _ (d : Digits) (m : f ≡ Some d) where
+      pub filled_large : max < d.value → (Err Above ≡ fault_of plain max s at n) × (ys ≡ put xs 10 all)
       filled_large k =
           (sym (large_fault plain max s a left e d m k) ∙ ap (fault_of plain max s a) (sym count) ∙ r.fault, stopped (r.rest ∙ ap (gray_pixels_of plain max s a) count ∙ large_pixels plain max s a left e d m k))
 

@@ -1,25 +1,12 @@
--- Tests joined by 'or' and 'and', once the first has been made; and white space lies within the list. Assumes nothing.
+-- White space lies within the list. Assumes nothing.
 use Prim.Native.Nat.{ℕ, ◌<◌}
 use mathlib.Core.Path.{◌≡◌, refl, sym, ap, ◌∙◌}
-use mathlib.Core.Bool.{Bool, true, false, ◌&&◌, ◌||◌, true≢false}
+use mathlib.Core.Bool.{Bool, true, false, true≢false}
 use mathlib.Core.List.{List}
 use borrow.Author.Tests.{ltb-true, ltb-false}
 use lib.Dec.{ltb}
 use lib.ListN.{length, get_or, get_or-eq_default}
 use Rattle.pgm.specs.Pgm.{blank}
-
-module _ {a : Bool} (b : Bool) where
-  pub or_yes : a ≡ true → true ≡ a || b
-  or_yes e = sym (ap (λ (t : Bool). t || b) e)
-
-  pub or_no : a ≡ false → b ≡ a || b
-  or_no e = sym (ap (λ (t : Bool). t || b) e)
-
-  pub and_yes : a ≡ true → b ≡ a && b
-  and_yes e = sym (ap (λ (t : Bool). t && b) e)
-
-  pub and_no : a ≡ false → false ≡ a && b
-  and_no e = sym (ap (λ (t : Bool). t && b) e)
 
 -- white space is no byte past the end
 pub blank_within : (s : List ℕ) (i : ℕ) → blank (get_or s i 0) ≡ true → i < length s

@@ -1,7 +1,7 @@
 -- What is due and a frame, put one behind the other, and taken again. Assumes nothing.
 use Prim.Native.Nat.{ℕ, ◌+◌, ◌≤◌}
 use mathlib.Core.Path.{◌≡◌, refl, sym, ap, ◌∙◌}
-use mathlib.Core.Bool.{Bool, true, false, true≢false}
+use mathlib.Core.Bool.{true, false}
 use mathlib.Core.List.{List, [], ◌++◌}
 use native.Mathlib.Omega.{arith}
 use native.Mathlib.Nat.{add-zero}
@@ -12,10 +12,10 @@ use Rattle.lists.proofs.Cases.{pick_true, pick_false, pick_both}
 use Rattle.lists.proofs.Put.{length_put, take_put_front, then_put}
 use Rattle.lists.proofs.Images.{part_put}
 use Rattle.encode.specs.Bytes.{half_bytes, word_bytes, start_bytes, settings_bytes}
-use Rattle.pgm.specs.declared.Made.{Made}
-use Rattle.pgm.specs.declared.Made.TheVariants.{Size, Refused}
+use Rattle.std.specs.Prelude.{Result, Ok, Err}
+use Rattle.pgm.specs.declared.Fault.{Fault}
 use Rattle.pgm.specs.Pgm.{header_of}
-use Rattle.pgm.specs.Frame.{record_of}
+use Rattle.pgm.specs.Frame.{made_of, record_of}
 use Rattle.pgm.proofs.Record.{record_fits, Whole, whole}
 use Rattle.pgm2rec.specs.declared.Run.{Run}
 use Rattle.pgm2rec.specs.Course.{due_of, picture_of, frame_bytes, sized_of, Shown}
@@ -42,26 +42,18 @@ module _ (run : Run) where
   due_short = pick_both (λ (l : List ℕ). length l ≤ 20) run.is_new told [] (rw (settings_long run.options.eps run.options.passes run.options.filter run.options.edge) (omega arith)) (omega arith)
 
 -- ---- the size of a record with what is due before it
-abbrev pub is_size : Made → Bool
-is_size (Size n) = true
-is_size (Refused k) = false
-
-abbrev size_in : Made → ℕ
-size_in (Size n) = n
-size_in (Refused k) = 0
-
-record Sized (run : Run) (n : ℕ) (m : Made) : Type 0 where
+record Sized (run : Run) (n : ℕ) (m : Result ℕ Fault) : Type 0 where
   frame : ℕ
-  is : m ≡ Size frame
+  is : m ≡ Ok frame
   whole : length (due_of run) + frame ≡ n
 
-sized : (run : Run) (n : ℕ) (m : Made) → sized_of run m ≡ Size n → Sized run n m
+sized : (run : Run) (n : ℕ) (m : Result ℕ Fault) → sized_of run m ≡ Ok n → Sized run n m
 unfolding sized_of
-sized run n (Size k) e = record { frame = k; is = refl; whole = ap size_in e }
-sized run n (Refused k) e = absurd (true≢false (sym (ap is_size e)))
+sized run n (Ok k) e = record { frame = k; is = refl; whole = cc }
+sized run n (Err k) e = cc
 
 -- a frame fits its room
-pub frame_short : (s : List ℕ) (n : ℕ) → picture_of s ≡ Size n → n ≤ 65536
+pub frame_short : (s : List ℕ) (n : ℕ) → picture_of s ≡ Ok n → n ≤ 65536
 frame_short s n e = (whole s 65536 n e).fits
 
 -- ---- a frame behind what is due
@@ -74,6 +66,9 @@ module _ (run : Run) (s xs : List ℕ) (full : length xs ≡ 65556) where
     pub room : length (take m (drop k ys)) ≡ 65536
     room = length-take-le m (drop k ys) (omega (arith, length-drop k ys, long, due_short run)) ∙ size
 
+    pub made_in : {r : Result ℕ Fault} → r ≡ made_of s (length (take m (drop k ys))) (header_of s) → r ≡ picture_of s
+    made_in e = e ∙ ap (λ (n : ℕ). made_of s n (header_of s)) room
+
     pub behind : {p : List ℕ} → p ≡ put (take m (drop k ys)) 0 (record_of s (length (take m (drop k ys))) (header_of s)) → take k ys ++ (p ++ drop m (drop k ys)) ≡ put xs 0 (due_of run ++ frame_bytes s)
     behind {p} e =
         let f : length (frame_bytes s) ≤ 65536 = record_fits s 65536 (header_of s) in
@@ -83,7 +78,7 @@ module _ (run : Run) (s xs : List ℕ) (full : length xs ≡ 65556) where
         (omega arith) (omega (arith, due_short run))
 
   -- what was put, where the picture is one
-  module _ {ys : List ℕ} (b : ys ≡ put xs 0 (due_of run ++ frame_bytes s)) {m : Made} (a : m ≡ sized_of run (picture_of s)) (n : ℕ) (e : m ≡ Size n) where
+  module _ {ys : List ℕ} (b : ys ≡ put xs 0 (due_of run ++ frame_bytes s)) {m : Result ℕ Fault} (a : m ≡ sized_of run (picture_of s)) (n : ℕ) (e : m ≡ Ok n) where
     made : Sized run n (picture_of s)
     made = sized run n (picture_of s) (sym a ∙ e)
 

@@ -1,45 +1,40 @@
 -- The run after a picture and after a word, case by case. Assumes nothing.
 use Prim.Native.Nat.{ℕ, ◌+◌, ◌≤◌}
-use mathlib.Core.Path.{◌≡◌, refl, sym, ap, ◌∙◌}
-use mathlib.Core.Bool.{Bool, true, false, true≢false}
+use mathlib.Core.Path.{◌≡◌, refl, sym, ◌∙◌}
+use mathlib.Core.Bool.{Bool, true, false}
 use mathlib.Core.List.{List}
 use native.Mathlib.Omega.{arith}
-use borrow.Author.Tests.{lt-ltb, le-ltb, eq-eqb, ne_eqb}
-use lib.IntN.{ℤ, pos, negsuc}
+use borrow.Author.Tests.{lt-ltb, le-ltb}
 use lib.ListN.{length, take}
-use mir.Syntax.{w32}
-use Rattle.std.specs.Prelude.{Result, Ok, Err}
-use mir.Val.{SFits, to_z, of_z}
-use mir.ValLaws.{to_z-of_z}
-use Rattle.lists.proofs.Cases.{pick_true, pick_false, pick_both}
-use Rattle.files.specs.declared.Filled.{Filled}
-use Rattle.pgm.specs.declared.Made.{Made}
-use Rattle.pgm.specs.declared.Made.TheVariants.{Size, Refused}
-use Rattle.options.specs.declared.Taken.{Taken}
-use Rattle.options.specs.declared.Taken.TheVariants.{Settings, Picture, Bad}
+use Rattle.std.specs.Prelude.{Option, Some, None, Result, Ok, Err, is_ok}
+use Rattle.lists.proofs.Cases.{pick_true, pick_false}
+use Rattle.files.specs.declared.Failed.{Failed}
+use Rattle.pgm.specs.declared.Fault.{Fault}
+use Rattle.options.specs.declared.Wrong.{Wrong}
+use Rattle.options.specs.declared.Word.{Word}
+use Rattle.options.specs.declared.Word.TheVariants.{Settings, Picture, Help}
 use Rattle.options.specs.Words.{word_of}
 use Rattle.pgm2rec.specs.declared.Run.{Run}
-use Rattle.pgm2rec.specs.Course.{onward_of, stopped_of, written_of, File, Read, Unread, file_of, picture_of, sized_of, made_run, file_run, opened_file, number_of, Answers, taken_run, is_zero, heard_run, WordTold, told_run}
-use Rattle.pgm2rec.proofs.Parts.{is_size}
+use Rattle.pgm2rec.specs.Course.{onward_of, stopped_of, written_of, File, Read, Unread, file_of, picture_of, sized_of, made_run, file_run, opened_file, Answers, taken_run, heard_of, heard_run, WordTold, told_run}
 
 -- ---- a picture
 module _ (run : Run) (out : Bool) where
-  refused_by : (m : Made) (k : ℕ) → sized_of run m ≡ Refused k → made_run run out m ≡ stopped_of run
+  refused_by : (m : Result ℕ Fault) (k : Fault) → sized_of run m ≡ Err k → made_run run out m ≡ stopped_of run
   unfolding sized_of made_run
-  refused_by (Size n) k e = absurd (true≢false (ap is_size e))
-  refused_by (Refused n) k e = refl
+  refused_by (Ok n) k e = cc
+  refused_by (Err n) k e = refl
 
-  made_by : (m : Made) (n : ℕ) → sized_of run m ≡ Size n → made_run run out m ≡ written_of run out
+  made_by : (m : Result ℕ Fault) (n : ℕ) → sized_of run m ≡ Ok n → made_run run out m ≡ written_of run out
   unfolding sized_of made_run
-  made_by (Size k) n e = refl
-  made_by (Refused k) n e = absurd (true≢false (sym (ap is_size e)))
+  made_by (Ok k) n e = refl
+  made_by (Err k) n e = cc
 
-  module _ (s : List ℕ) {m : Made} (a : m ≡ sized_of run (picture_of s)) where
-    pub run_refused : (k : ℕ) → m ≡ Refused k → file_run run out (Read s) ≡ stopped_of run
+  module _ (s : List ℕ) {m : Result ℕ Fault} (a : m ≡ sized_of run (picture_of s)) where
+    pub run_refused : (k : Fault) → m ≡ Err k → file_run run out (Read s) ≡ stopped_of run
     unfolding file_run
     run_refused k e = refused_by (picture_of s) k (sym a ∙ e)
 
-    pub run_made : (n : ℕ) → m ≡ Size n → file_run run out (Read s) ≡ written_of run out
+    pub run_made : (n : ℕ) → m ≡ Ok n → file_run run out (Read s) ≡ written_of run out
     unfolding file_run
     run_made n e = made_by (picture_of s) n (sym a ∙ e)
 
@@ -48,49 +43,43 @@ module _ (run : Run) (out : Bool) where
   run_unread = refl
 
 -- ---- a file as a buffer holds it
-module _ (f : Filled) (buf : List ℕ) where
-  pub not_read : f.is_read ≡ false → file_of f buf ≡ Unread
+module _ (buf : List ℕ) {f : Result ℕ Failed} where
+  pub not_read : (e : Failed) → f ≡ Err e → file_of f buf ≡ Unread
   unfolding file_of
-  not_read e = pick_false _ _ _ e
+  not_read e q = rw q refl
 
-  pub too_long : f.is_read ≡ true → f.count ≡ length buf → file_of f buf ≡ Unread
+  pub too_long : (n : ℕ) → f ≡ Ok n → n ≡ length buf → file_of f buf ≡ Unread
   unfolding file_of
-  too_long e n = pick_true _ _ _ e ∙ pick_false _ _ _ (le-ltb f.count (length buf) (omega (arith, n)))
+  too_long n q e = rw q (pick_false _ _ _ (le-ltb n (length buf) (omega (arith, e))))
 
-  pub all_read_lem : f.is_read ≡ true → f.count ≤ length buf → (f.count ≡ length buf → ⊥) → file_of f buf ≡ Read (take f.count buf)
+  pub all_read_lem : (n : ℕ) → f ≡ Ok n → n ≤ length buf → (n ≡ length buf → ⊥) → file_of f buf ≡ Read (take n buf)
   unfolding file_of
-  all_read_lem e h n = pick_true _ _ _ e ∙ pick_true _ _ _ (lt-ltb f.count (length buf) (omega (arith, n)))
+  all_read_lem n q h e = rw q (pick_true _ _ _ (lt-ltb n (length buf) (omega (arith, e))))
 
 -- ---- an open, by whether it failed
 module _ (run : Run) (out : Bool) (f : File) {F E : Type 0} {r : Result F E} where
-  pub run_closed : {e : E} → r ≡ Err e → file_run run out (opened_file (number_of r) f) ≡ stopped_of run
+  pub run_closed : {e : E} → r ≡ Err e → file_run run out (opened_file (is_ok r) f) ≡ stopped_of run
   unfolding opened_file
   run_closed q = rw q (run_unread run out)
 
-  pub run_open : {x : F} → r ≡ Ok x → file_run run out (opened_file (number_of r) f) ≡ file_run run out f
+  pub run_open : {x : F} → r ≡ Ok x → file_run run out (opened_file (is_ok r) f) ≡ file_run run out f
   unfolding opened_file
   run_open q = rw q refl
 
--- ---- a word
-zero_is : is_zero (pos 0) ≡ true
-unfolding is_zero
-zero_is = eq-eqb 0 0 refl
+-- ---- a word, by whether it could be had
 
-nonzero : (z : ℤ) → (z ≡ pos 0 → ⊥) → is_zero z ≡ false
-unfolding is_zero
-nonzero (pos k) h = ne_eqb k 0 (λ e. h (ap pos e))
-nonzero (negsuc k) h = refl
+-- answers that nobody asks for
+abbrev pub nobody : Answers
+nobody = record { is_open = true; file = Unread; out = true }
 
-module _ (run : Run) (error : ℤ) (word : List ℕ) (a : Answers) where
-  pub word_had : error ≡ pos 0 → heard_run run error word a ≡ taken_run run a (word_of run.options word)
-  word_had e = pick_true _ _ _ (ap is_zero e ∙ zero_is)
+module _ (run : Run) (a : Answers) (buf : List ℕ) {E : Type 0} {r : Result ℕ E} where
+  pub run_heard : {n : ℕ} → r ≡ Ok n → heard_run run (heard_of r buf) a ≡ taken_run run a (word_of run.options (take n buf))
+  unfolding heard_run
+  run_heard q = rw q refl
 
-  pub word_not_had : (error ≡ pos 0 → ⊥) → heard_run run error word a ≡ stopped_of run
-  word_not_had h = pick_false _ _ _ (nonzero error h)
-
--- a number whose bits are those of 0 is 0
-pub bits_zero : (z : ℤ) → SFits w32 z → of_z w32 z ≡ 0 → z ≡ pos 0
-bits_zero z h e = sym (to_z-of_z w32 z h) ∙ ap (to_z w32) e
+  pub run_not_heard : {e : E} → r ≡ Err e → heard_run run (heard_of r buf) a ≡ stopped_of run
+  unfolding heard_run
+  run_not_heard q = rw q refl
 
 -- ---- each word is passed
 next_went : (run : Run) (b : Bool) → (written_of run b).next ≡ run.next
@@ -98,22 +87,27 @@ unfolding written_of
 next_went run true = refl
 next_went run false = refl
 
-next_made : (run : Run) (out : Bool) (m : Made) → (made_run run out m).next ≡ run.next
+next_made : (run : Run) (out : Bool) (m : Result ℕ Fault) → (made_run run out m).next ≡ run.next
 unfolding made_run
-next_made run out (Size n) = next_went run out
-next_made run out (Refused k) = refl
+next_made run out (Ok n) = next_went run out
+next_made run out (Err k) = refl
 
 next_file : (run : Run) (out : Bool) (f : File) → (file_run run out f).next ≡ run.next
 unfolding file_run
 next_file run out (Read s) = next_made run out (picture_of s)
 next_file run out Unread = refl
 
-next_taken : (run : Run) (a : Answers) (w : Taken) → (taken_run run a w).next ≡ run.next
+next_taken : (run : Run) (a : Answers) (w : Result Word Wrong) → (taken_run run a w).next ≡ run.next
 unfolding taken_run
-next_taken run a (Settings o) = refl
-next_taken run a Picture = next_file run a.out (opened_file a.fd a.file)
-next_taken run a (Bad k) = refl
+next_taken run a (Ok (Settings o)) = refl
+next_taken run a (Ok Picture) = next_file run a.out (opened_file a.is_open a.file)
+next_taken run a (Ok Help) = refl
+next_taken run a (Err k) = refl
+
+next_heard : (run : Run) (w : Option (List ℕ)) (a : Answers) → (heard_run run w a).next ≡ run.next
+unfolding heard_run
+next_heard run None a = refl
+next_heard run (Some w) a = next_taken run a (word_of run.options w)
 
 pub next_told : (run : Run) (t : WordTold) → (told_run run t).next ≡ run.next + 1
-next_told run t =
-    pick_both (λ (r : Run). r.next ≡ run.next + 1) (is_zero t.error) _ _ (next_taken (onward_of run) t.answers (word_of run.options t.word)) refl
+next_told run t = next_heard (onward_of run) t.word t.answers

@@ -14,13 +14,11 @@ fn show(rt: &HostRuntime, name: &str, buf: &mut [u8]) {
             let _ = output.write_all(b" can't be opened\n");
         }
         Ok(mut input) => {
-            let file = files::fill(&mut input, buf);
-            if file.is_read {
-                let _ = output.write_all(b" read ");
-            } else {
-                let _ = output.write_all(b" not read ");
-            }
-            let n = file.count;
+            let (how, n) = match files::fill(&mut input, buf) {
+                Ok(n) => (" read ", n),
+                Err(failed) => (" not read ", failed.count),
+            };
+            let _ = output.print(how);
             let _ = output.print(n);
             let _ = output.write_all(b" ");
             let _ = output.write_all(&buf[..n]);

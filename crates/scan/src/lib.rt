@@ -11,13 +11,11 @@ pub struct Digits {
     pub next: usize,
 }
 
+#[tactic(auto, unfolding(crate::specs::Scan::is_digit))]
 pub fn is_digit(b: u8) -> bool
     ensures { result ≡ is_digit b }
 {
-    if b < b'0' {
-        return false;
-    }
-    b <= b'9'
+    b.is_ascii_digit()
 }
 
 // A number with one more digit, held to most.
@@ -25,8 +23,7 @@ fn with(value: usize, b: u8, most: usize) -> usize
     requires { (value ≤ most) × (most ≤ 4294967296) × (48 ≤ b) }
     ensures { result ≡ min (10 * value + (b - 48)) most }
 {
-    let v = 10 * value + (b - b'0') as usize;
-    if v < most { v } else { most }
+    (10 * value + usize::from(b - b'0')).min(most)
 }
 
 // The digits from index at on, of which there may be none: the number that they make behind the number before them, held to most, and the
@@ -36,14 +33,15 @@ pub fn digits_at(s: &[u8], at: usize, before: usize, most: usize) -> Digits
     ensures { result ≡ digits_at s.now at before most }
 {
     let mut value = before;
-    let mut next = at;
-    while next < s.len() {
+    for next in at..s.len() {
         let b = s[next];
         if !is_digit(b) {
             return Digits { value, next };
         }
         value = with(value, b, most);
-        next += 1;
     }
-    Digits { value, next }
+    Digits {
+        value,
+        next: s.len().max(at),
+    }
 }

@@ -1,9 +1,10 @@
--- `encode::put_word` puts its two halves. Assumes nothing.
+-- `encode::put_word` copies four bytes. Assumes nothing.
+use mathlib.Core.Path.{◌∙◌}
 use native.Mathlib.Omega.{arith}
 use Rattle.encode.specs.Bytes.{half_bytes, word_bytes}
-use Rattle.lists.proofs.Put.{then_put}
+use Rattle.encode.proofs.Pieces.{low_word, copied}
 use Rattle.encode.proofs.put_word.Goals as goal
 
 pub returns : goal.returns
 unfolding word_bytes half_bytes
-returns c = then_put c.args.out.now c.args.at (half_bytes c.args.n) _ (half_bytes _) c.put_half.ensures c.put_half-2.ensures (omega arith) (omega (arith, c.requires))
+returns c = copied c.args.out.now c.args.at _ (word_bytes c.args.n) (c.copy_from_slice.ensures.after ∙ c.to_le_bytes.ensures ∙ low_word c.args.n) (omega arith)

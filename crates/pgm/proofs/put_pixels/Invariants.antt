@@ -1,10 +1,6 @@
 -- `pgm::put_pixels` puts pixel after pixel. Assumes nothing.
-use Prim.Native.Nat.{◌-◌}
 use Rattle.pgm.proofs.Raster.{Filled}
 use Rattle.pgm.proofs.put_pixels.Given as goal
 
 abbrev pub invariant-loop-i : goal.invariant-loop-i
 invariant-loop-i l = Filled l.plain l.max l.s l.at l.n l.initial.out l.out l.a l.i
-
-abbrev pub decreases-loop-i : goal.decreases-loop-i
-decreases-loop-i l = l.n - l.i

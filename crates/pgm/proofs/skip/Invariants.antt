@@ -1,5 +1,5 @@
 -- `pgm::skip` goes byte after byte. Assumes nothing.
-use Prim.Native.Nat.{◌+◌, ◌-◌}
+use Prim.Native.Nat.{◌+◌, ◌≤◌, max}
 use mathlib.Core.Bool.{false}
 use lib.ListN.{length, drop}
 use Rattle.pgm.specs.Pgm.{gap_of}
@@ -7,7 +7,4 @@ use Rattle.pgm.proofs.Gap.{Skipped}
 use Rattle.pgm.proofs.skip.Given as goal
 
 abbrev pub invariant-loop-i : goal.invariant-loop-i
-invariant-loop-i l = Skipped l.s l.in_comment l.i (l.at + gap_of false (drop l.at l.s))
-
-abbrev pub decreases-loop-i : goal.decreases-loop-i
-decreases-loop-i l = length l.s - l.i
+invariant-loop-i l = record { skipped : Skipped l.s l.in_comment l.i (l.at + gap_of false (drop l.at l.s)); within : l.i ≤ max (length l.s) l.at }

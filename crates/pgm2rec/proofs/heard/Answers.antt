@@ -1,21 +1,20 @@
 -- `pgm2rec::heard` goes on only with a word that could be had. Assumes nothing.
-use mathlib.Core.Path.{sym, ap, ◌∙◌}
-use mathlib.Core.Bool.{true}
-use lib.IntN.{pos}
-use mir.Syntax.{w32}
-use mir.Val.{of_z}
-use Rattle.pgm2rec.specs.Course.{Answers, Unread}
-use Rattle.pgm2rec.proofs.Steps.{word_had, word_not_had, bits_zero}
+use mathlib.Core.Path.{sym, ◌∙◌}
+use native.Mathlib.Omega.{arith}
+use lib.ListN.{length-take}
+use Rattle.pgm2rec.proofs.Steps.{nobody, run_heard, run_not_heard}
 use Rattle.pgm2rec.proofs.heard.Goals as goal
 
-pub returns-then-error-ne0 : goal.returns-then-error-ne0
-returns-then-error-ne0 c =
-    let a = c.args in
-    let x : Answers = record { fd = pos 0; file = Unread; out = true } in
-    (x, c.stopped.ensures ∙ sym (word_not_had a.run a.error a.word.now x (λ e. c.if-error-ne0.true (ap (of_z w32) e))))
+pub slice_bounds-taken-end : goal.slice_bounds-taken-end
+slice_bounds-taken-end c = let h = rw c.in-Ok.is at c.requires in simp length-take (omega (arith, h))
 
-pub returns : goal.returns
-returns c =
+pub returns-in-Err : goal.returns-in-Err
+returns-in-Err c =
+    let a = c.args in
+    (nobody, c.refuse.ensures ∙ sym (run_not_heard a.run nobody a.bytes.now c.in-Err.is))
+
+pub returns-in-Ok : goal.returns-in-Ok
+returns-in-Ok c =
     let a = c.args in
     let w = c.taken.ensures in
-    (w.0, w.1 ∙ sym (word_had a.run a.error a.word.now w.0 (bits_zero a.error c.ranges.error c.if-error-ne0.false)))
+    (w.0, w.1 ∙ sym (run_heard a.run w.0 a.bytes.now c.in-Ok.is))

@@ -1,5 +1,5 @@
 -- `pgm2rec::show` writes what was put, and no more. Assumes nothing.
-use mathlib.Core.Path.{sym, ◌∙◌}
+use mathlib.Core.Path.{refl, sym, ◌∙◌}
 use mathlib.Core.Bool.{true}
 use Rattle.pgm2rec.proofs.Parts.{within, counted, shown}
 use Rattle.pgm2rec.proofs.Steps.{run_refused, run_made}
@@ -8,28 +8,25 @@ use Rattle.pgm2rec.proofs.show.Goals as goal
 pub slice_bounds-write-end : goal.slice_bounds-write-end
 slice_bounds-write-end c =
     let a = c.args in
-    let p = c.put_picture-made in
-    within a.run a.file.now a.out.now c.requires p.ensures.out_after p.ensures.value _ c.in-Size.is
+    within a.run a.file.now a.out.now c.requires c.put_picture.ensures.out_after c.in-Ok.ensures.value _ refl
 
-pub slice_bounds-write-end-in-Size : goal.slice_bounds-write-end-in-Size
-slice_bounds-write-end-in-Size c =
+pub slice_bounds-write-end-in-Ok : goal.slice_bounds-write-end-in-Ok
+slice_bounds-write-end-in-Ok c =
     let a = c.args in
-    let p = c.put_picture-made in
-    counted a.run a.file.now a.out.now c.requires p.ensures.out_after p.ensures.value _ c.in-Size.is
+    counted a.run a.file.now a.out.now c.requires c.put_picture.ensures.out_after c.in-Ok.ensures.value _ refl
 
 pub write-requires : goal.write-requires
 write-requires c =
     let a = c.args in
-    let p = c.put_picture-made in
-    shown a.run a.file.now a.out.now c.requires p.ensures.out_after p.ensures.value _ c.in-Size.is
+    shown a.run a.file.now a.out.now c.requires c.put_picture.ensures.out_after c.in-Ok.ensures.value _ refl
 
-pub returns-in-Refused : goal.returns-in-Refused
-returns-in-Refused c =
+pub returns-in-Err : goal.returns-in-Err
+returns-in-Err c =
     let a = c.args in
-    (true, c.stopped.ensures ∙ sym (run_refused a.run true a.file.now c.put_picture-made.ensures.value _ c.in-Refused.is))
+    (true, c.refuse.ensures ∙ sym (run_refused a.run true a.file.now c.in-Err.ensures.value _ refl))
 
-pub returns-in-Size : goal.returns-in-Size
-returns-in-Size c =
+pub returns-in-Ok : goal.returns-in-Ok
+returns-in-Ok c =
     let a = c.args in
     let w = c.write.ensures in
-    (w.0, w.1 ∙ sym (run_made a.run w.0 a.file.now c.put_picture-made.ensures.value _ c.in-Size.is))
+    (w.0, w.1 ∙ sym (run_made a.run w.0 a.file.now c.in-Ok.ensures.value _ refl))

@@ -1,34 +1,35 @@
 -- `pgm2rec::taken` goes by what the word is. Assumes nothing.
-use mathlib.Core.Path.{◌≡◌, sym, ap, ◌∙◌}
-use mathlib.Core.Bool.{true}
-use lib.IntN.{pos}
-use Rattle.options.specs.declared.Taken.TheVariants.{Picture}
-use Rattle.options.specs.Words.{word_of}
-use Rattle.pgm2rec.specs.Course.{Answers, Unread, taken_run}
+use mathlib.Core.Path.{sym, ap, ◌∙◌}
+use Rattle.std.specs.Prelude.{Ok}
+use Rattle.pgm2rec.specs.Course.{taken_run}
+use Rattle.pgm2rec.proofs.Steps.{nobody}
 use Rattle.pgm2rec.proofs.taken.Goals as goal
 
--- answers that nobody asks for
-abbrev nobody : Answers
-nobody = record { fd = pos 0; file = Unread; out = true }
-
-pub returns-in-Settings : goal.returns-in-Settings
+pub returns-in-Ok-Settings : goal.returns-in-Ok-Settings
 unfolding taken_run
-returns-in-Settings c =
+returns-in-Ok-Settings c =
     let a = c.args in
-    let e = sym c.take_word-kind.ensures ∙ c.in-Settings.is in
+    let e = sym c.take_word.ensures ∙ c.in-Ok-Settings.is ∙ ap Ok c.in-Ok-Settings.field-0-is in
     (nobody, c.changed.ensures ∙ sym (ap (taken_run a.run nobody) e))
 
-pub returns-in-Picture : goal.returns-in-Picture
+pub returns-in-Ok-Picture : goal.returns-in-Ok-Picture
 unfolding taken_run
-returns-in-Picture c =
+returns-in-Ok-Picture c =
     let a = c.args in
     let w = c.picture.ensures in
-    let e : word_of a.run.options a.word.now ≡ Picture = sym c.take_word-kind.ensures ∙ c.in-Picture.is in
+    let e = sym c.take_word.ensures ∙ c.in-Ok-Picture.is ∙ ap Ok c.in-Ok-Picture.field-0-is in
     (w.0, w.1 ∙ sym (ap (taken_run a.run w.0) e))
 
-pub returns-in-Bad : goal.returns-in-Bad
+pub returns-in-Ok-Help : goal.returns-in-Ok-Help
 unfolding taken_run
-returns-in-Bad c =
+returns-in-Ok-Help c =
     let a = c.args in
-    let e = sym c.take_word-kind.ensures ∙ c.in-Bad.is in
-    (nobody, c.stopped.ensures ∙ sym (ap (taken_run a.run nobody) e))
+    let e = sym c.take_word.ensures ∙ c.in-Ok-Help.is ∙ ap Ok c.in-Ok-Help.field-0-is in
+    (nobody, c.refuse.ensures ∙ sym (ap (taken_run a.run nobody) e))
+
+pub returns-in-Err : goal.returns-in-Err
+unfolding taken_run
+returns-in-Err c =
+    let a = c.args in
+    let e = sym c.take_word.ensures ∙ c.in-Err.is in
+    (nobody, c.refuse-in-Err.ensures ∙ sym (ap (taken_run a.run nobody) e))

@@ -1,16 +1,11 @@
 -- `pgm2rec::turn` asks for the next word. Assumes nothing.
-use Rattle.std.proofs.Common.{pos, List, ℕ, [], take, ap, ◌∙◌}
+use Rattle.std.proofs.Common.{Option, List, ℕ, ap, ◌∙◌}
 use Rattle.pgm2rec.specs.declared.Run.{Run}
-use Rattle.pgm2rec.specs.Course.{heard_run}
+use Rattle.pgm2rec.specs.Course.{heard_of, heard_run}
 use Rattle.pgm2rec.proofs.turn.Goals as goal
 
-pub returns-in-Ok : goal.returns-in-Ok
-returns-in-Ok c =
+pub returns : goal.returns
+returns c =
     let w = c.heard.ensures in
-    let word : List ℕ = take c.in-Ok.n c.arg.new.buf in
-    (record { error = pos 0; word = word; answers = w.0 }, w.1 ∙ ap (λ (z : Run). heard_run z (pos 0) word w.0) c.onward.ensures)
-
-pub returns-in-Err : goal.returns-in-Err
-returns-in-Err c =
-    let w = c.heard-in-Err.ensures in
-    (record { error = pos 1; word = []; answers = w.0 }, w.1 ∙ ap (λ (z : Run). heard_run z (pos 1) [] w.0) c.onward-in-Err.ensures)
+    let word : Option (List ℕ) = heard_of c.arg-word.result c.arg-word.new.buf in
+    (record { word = word; answers = w.0 }, w.1 ∙ ap (λ (z : Run). heard_run z word w.0) c.onward.ensures)
