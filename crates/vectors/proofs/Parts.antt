@@ -183,6 +183,6 @@ unfolding stats_agree
 stats_agree_lem words n e = ap (λ (n : ℕ). leb n 1024 && agreed_at words n) e
 
 -- ---- nine entries: the inverse's own, or none
-pub inverse_told_lem : (words : List ℕ) {m : Matrix3} {v : Inverse} → m ≡ matrix_at words 1 → v ≡ inverse_of m → inverse_told words v ≡ inverse_agrees words
+pub inverse_told_lem : (words : List ℕ) {m : Matrix3} {v : Option Matrix3} → m ≡ matrix_at words 1 → v ≡ inverse_of m → inverse_told words v ≡ inverse_agrees words
 unfolding inverse_agrees
 inverse_told_lem words {m} {v} e f = ap (inverse_told words) (f ∙ ap inverse_of e)
