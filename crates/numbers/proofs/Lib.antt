@@ -3,3 +3,4 @@ pub mod Small
 pub mod Whole
 pub mod Rounded
 pub mod Cast
+pub mod Short

@@ -26,12 +26,13 @@ pub fn to_f32(n: usize) -> f32
     n as f32
 }
 
-// A number below 2^16 as f32: by way of 16 bits it is one instruction, and a loop takes several at a time.
+// A number below 2^16 as an f32, exactly: from 2^23 on the bits of an f32 count by ones. For loops that are to take several pixels at a time:
+// the kit fences a cast to a float and a comparison of floats, and of a loop with a fence the compiler works on one pixel at a time.
 pub fn to_f32_short(n: usize) -> f32
     requires { n ≤ 65535 }
     ensures { result ≡ Ieee.of_int binary32 (pos n) }
 {
-    n as u16 as f32
+    f32::from_bits(0x4b00_0000 + n as u32) - 8388608.0
 }
 
 // A byte as an f32, exactly.

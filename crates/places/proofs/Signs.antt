@@ -2,26 +2,24 @@
 use mathlib.Core.Path.{◌≡◌, refl, sym, ap, ◌∙◌, subst}
 use mathlib.Core.Bool.{Bool, true, false, not, ◌&&◌, cond, true≢false}
 use mathlib.Core.Logic.{inl, inr}
-use Prim.Native.Nat.{ℕ, zero, suc, ◌+◌, ◌-◌, ◌*◌, ◌/◌, ◌%◌, ◌^◌, ◌≤◌, ◌<◌}
+use Prim.Native.Nat.{ℕ, zero, suc, ◌+◌, ◌-◌, ◌*◌, ◌^◌, ◌≤◌, ◌<◌}
 use native.Mathlib.Nat.{zero-mul, mul-one, zero-add, mul-pos, lt_of_lt_of_le, lt_irrefl, le-add_right}
 use native.Mathlib.Omega.{arith}
 use borrow.Author.Tests.{lt-ltb, le-ltb}
 use lib.Dec.{T, ltb, leb, eqb, eqb-zero-suc, lit<, lit≤}
 use lib.IntN.{ℤ, pos}
-use lib.Ieee.{Float, nan, inf, fin, binary32, up, down, is_nan, round, sum, add, neg, sub, lt, eq, le, fits, of_int, of_bits, to_bits}
-use lib.Ieee.Fits.{down_pos, up_pos, add-fits, of_int-fits}
-use lib.Ieee.Bits.{of_bits-fits}
+use lib.Ieee.{Float, nan, inf, fin, binary32, up, down, is_nan, round, sum, add, neg, sub, lt, eq, le, fits, of_bits, to_bits}
+use lib.Ieee.Fits.{down_pos, up_pos, add-fits}
 use lib.Ieee.Exact.{HasValue}
 use lib.Ieee.Scale.{finite}
 use Rattle.floats.specs.Bound.{Within, UpTo, AtLeast}
 use Rattle.floats.specs.F32.{◌⊕◌, ◌⊖◌, ◌⊗◌, f32, 0f}
 use Rattle.floats.proofs.Within.{Signed, round_signed, round_within, within_finite, within_more, mul_within, add_within, rep_down, rep_up, rep_pow}
-use Rattle.floats.proofs.Exactly.{whole_is, value_unique, value_over, value_within}
-use Rattle.floats.proofs.Signs.{within_of_le, sub_is, sub_whole, sub_within_max, round_at_least}
+use Rattle.floats.proofs.Exactly.{whole_is, value_within}
+use Rattle.floats.proofs.Signs.{within_of_le, sub_is, sub_within_max, round_at_least}
 use Rattle.floats.proofs.Tests.{below_zero, above_zero, zero_is}
-use Rattle.floats.proofs.Patterns.{own_pattern, bits_value, units_normal}
+use Rattle.floats.proofs.Patterns.{own_pattern}
 use Rattle.floats.proofs.Zeros.{Zero, plus_zero}
-use Rattle.floats.specs.Units.{units_at}
 use Rattle.numbers.proofs.Small.{nearly}
 use Rattle.pose.specs.declared.Map.{Map}
 use Rattle.places.specs.Point.{sx_of, sy_of, inside, Small, Unsigned}
@@ -178,23 +176,6 @@ module _ (map : Map) (s : Small map) where
 pub small_is : (v : Float) → T (le v (of_bits binary32 0x6780_0000)) → T (le (neg (of_bits binary32 0x6780_0000)) v) → Within v (2 ^ 80) 1
 unfolding of_bits
 small_is v h k = within_of_le v (of_bits binary32 0x6780_0000) (2 ^ 80) 1 (lit< tt) (refl, refl) h k
-
--- ---- a whole number by its bits
-
-pub exactly_is : (n : ℕ) → n ≤ 4096 → of_bits binary32 (0x4b00_0000 + n) ⊖ of_bits binary32 0x4b00_0000 ≡ f32 n
-exactly_is n N =
-    let b = 0x4b00_0000 + n in
-    let k = 8388608 + n in
-    let low : 8388608 ≤ b = omega arith in
-    let digits : b % 8388608 ≡ n = omega arith in
-    let field : b / 8388608 - 1 ≡ 149 = omega arith in
-    let units : units_at b ≡ k * 2 ^ 149 = units_normal b low ∙ rw (digits, field) refl in
-    let is : of_bits binary32 b ≡ f32 k =
-    value_unique binary32 (of_bits binary32 b) (f32 k) false (k * 2 ^ 149) (2 ^ 149) (lit< tt) (of_bits-fits binary32 b) (of_int-fits binary32 (pos k))
-    (subst (λ (u : ℕ). HasValue (of_bits binary32 b) false u (2 ^ 149)) units (bits_value b (omega arith))) (value_over (f32 k) false k (2 ^ 149) (whole_is k (omega arith))) in
-    let big : of_bits binary32 0x4b00_0000 ≡ f32 8388608 = unfold of_bits of_int round in refl in
-    let less : k - 8388608 ≡ n = omega arith in
-    rw (is, big) (sub_whole k 8388608 (omega arith) (omega arith) ∙ ap f32 less)
 
 -- ---- numbers with no sign
 

@@ -29,27 +29,19 @@ struct Place {
     flag: u32,
 }
 
-// A whole number as an f32, exactly: from 2^23 on the bits of an f32 count by ones.
-fn exactly(n: usize) -> f32
-    requires { n ≤ 4096 }
-    ensures { result ≡ Ieee.of_int binary32 (pos n) }
-{
-    f32::from_bits(0x4b00_0000 + n as u32) - 8388608.0
-}
-
 // The computed point of the pixel x, y.
 fn point_x(map: pose::Map, x: usize, y: usize) -> f32
     requires { (x ≤ 4096) × (y ≤ 4096) }
     ensures { result ≡ sx_of map x y }
 {
-    map.m00 * exactly(x) + map.m01 * exactly(y) + map.m02
+    map.m00 * numbers::to_f32_short(x) + map.m01 * numbers::to_f32_short(y) + map.m02
 }
 
 fn point_y(map: pose::Map, x: usize, y: usize) -> f32
     requires { (x ≤ 4096) × (y ≤ 4096) }
     ensures { result ≡ sy_of map x y }
 {
-    map.m10 * exactly(x) + map.m11 * exactly(y) + map.m12
+    map.m10 * numbers::to_f32_short(x) + map.m11 * numbers::to_f32_short(y) + map.m12
 }
 
 // Whether a is below b, a number with no sign. Of finite numbers the sign of their difference tells; 0 is added so that -0 is not below 0.
@@ -69,8 +61,8 @@ fn is_inside<const FINITE: bool>(w: usize, h: usize, sx: f32, sy: f32) -> bool
     requires { InRange w h × (FINITE ≡ true → T (finite sx) × T (finite sy)) }
     ensures { result ≡ inside w h sx sy }
 {
-    let right = exactly(w - 1);
-    let low = exactly(h - 1);
+    let right = numbers::to_f32_short(w - 1);
+    let low = numbers::to_f32_short(h - 1);
     !is_below::<FINITE>(sx, 0.0)
         & !is_below::<FINITE>(sy, 0.0)
         & is_below::<FINITE>(sx, right)
@@ -114,7 +106,7 @@ fn place_of<const FINITE: bool>(map: pose::Map, w: usize, h: usize, x: usize, y:
     let ty = or_zero(within, sy);
     let x0 = floor_small(tx);
     let y0 = floor_small(ty);
-    let at = index(y0 * exactly(w) + x0);
+    let at = index(y0 * numbers::to_f32_short(w) + x0);
     let flag = bits::flag(within, y * w + x);
     Place {
         at,
