@@ -4,3 +4,4 @@ pub mod Whole
 pub mod Rounded
 pub mod Cast
 pub mod Short
+pub mod Signs

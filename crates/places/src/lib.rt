@@ -3,8 +3,8 @@
 //
 // A pixel is marked exactly when its computed point lies inside: 0 <= sx < w - 1 and 0 <= sy < h - 1 in f32, so never where the point is a
 // NaN. The loop works out numbers alone and reads no image, so that the compiler can take several pixels at a time. It does so where no float
-// is compared and no whole number is cast to a float: the kit fences both. So numbers become floats by their bits, and of a map whose entries
-// are small the sign of a difference tells what is below. Of another map, whose points may be NaNs, floats are compared.
+// is compared and no whole number is cast to a float: it calls the helpers of crate numbers that do neither (the head there says why). They ask
+// for finite numbers, and the points of a map whose entries are small are finite. Of another map, whose points may be NaNs, floats are compared.
 #![tactic(auto)]
 
 ghost use Rattle.std.specs.Prelude.{◌≡◌, ◌+◌, ◌*◌, ◌^◌, ◌≤◌, ◌<◌, T, true, false, pos};
@@ -14,10 +14,10 @@ ghost use Rattle.std.specs.Float.Ieee.{in_signed, to_signed, to_unsigned};
 ghost use Rattle.std.specs.Float.Ieee.Scale.{finite};
 ghost use Rattle.lists.specs.Marked.{pick};
 ghost use Rattle.lists.specs.Premises.{InRange};
-ghost use Rattle.floats.specs.Bound.{Within, UpTo};
+ghost use Rattle.floats.specs.Bound.{Within};
 ghost use Rattle.floats.specs.F32.{0f};
-ghost use Rattle.numbers.specs.Numbers.{floor_of};
-ghost use Rattle.places.specs.Point.{sx_of, sy_of, inside, Small, Unsigned};
+ghost use Rattle.numbers.specs.Numbers.{Unsigned};
+ghost use Rattle.places.specs.Point.{sx_of, sy_of, inside, Small};
 ghost use Rattle.places.specs.Places.{PlaceOf, PlacesOf};
 
 // The source of a pixel: where the top left of its four pixels lies, the weights of the right and of the lower ones, and its flag.
@@ -44,13 +44,13 @@ fn point_y(map: pose::Map, x: usize, y: usize) -> f32
     map.m10 * numbers::to_f32_short(x) + map.m11 * numbers::to_f32_short(y) + map.m12
 }
 
-// Whether a is below b, a number with no sign. Of finite numbers the sign of their difference tells; 0 is added so that -0 is not below 0.
+// Whether a is below b. With FINITE both are finite and b has no sign, so that no floats are compared.
 fn is_below<const FINITE: bool>(a: f32, b: f32) -> bool
     requires { FINITE ≡ true → T (finite a) × Unsigned b }
     ensures { result ≡ Ieee.lt a b }
 {
     if FINITE {
-        f32::to_bits(a + 0.0 - b) >= 0x8000_0000
+        numbers::is_below_finite(a, b)
     } else {
         a < b
     }
@@ -76,15 +76,6 @@ fn or_zero(holds: bool, s: f32) -> f32
     if holds { s } else { 0.0 }
 }
 
-// The floor of an x from 0 to 2^22: 2^23 is added and taken off, where no f32 has a fraction; 1 less where that is too much.
-fn floor_small(x: f32) -> f32
-    requires { UpTo x 4194304 1 }
-    ensures { result ≡ Ieee.of_int binary32 (pos (Ieee.to_unsigned 64 (floor_of x))) }
-{
-    let f = (x + 8388608.0) - 8388608.0;
-    f - or_zero(is_below::<true>(x, f), 1.0)
-}
-
 // A whole number that is an f32, as one that indexes. By way of a signed number it is one instruction, and a loop takes several at a time.
 fn index(v: f32) -> u32
     requires { T (in_signed binary32 31 v) × (to_signed 31 v ≡ pos (to_unsigned 32 v)) }
@@ -104,8 +95,8 @@ fn place_of<const FINITE: bool>(map: pose::Map, w: usize, h: usize, x: usize, y:
     let within = is_inside::<FINITE>(w, h, sx, sy);
     let tx = or_zero(within, sx);
     let ty = or_zero(within, sy);
-    let x0 = floor_small(tx);
-    let y0 = floor_small(ty);
+    let x0 = numbers::floor_small(tx);
+    let y0 = numbers::floor_small(ty);
     let at = index(y0 * numbers::to_f32_short(w) + x0);
     let flag = bits::flag(within, y * w + x);
     Place {

@@ -1,6 +1,7 @@
 -- `places::is_inside` meets its contract. Assumes nothing.
 use native.Mathlib.Omega.{arith}
-use Rattle.places.proofs.Signs.{inside_told, whole_unsigned}
+use Rattle.numbers.proofs.Signs.{whole_unsigned}
+use Rattle.places.proofs.Finite.{inside_told}
 use Rattle.places.proofs.is_inside.Goals as goal
 
 pub is_below-requires-3 : goal.is_below-requires-3

@@ -15,7 +15,7 @@ use Rattle.places.specs.Point.{sx_of, sy_of, inside, marked_at, index_of}
 use Rattle.places.specs.Places.{PlaceOf}
 use Rattle.places.specs.declared.Place.{Place}
 use Rattle.places.proofs.Point.{zeroed_x, zeroed_y, zeroed_x_lem, zeroed_y_lem, spot_is, place_of}
-use Rattle.places.proofs.Signs.{finite_x, finite_y}
+use Rattle.places.proofs.Finite.{finite_x, finite_y}
 use Rattle.places.proofs.place_of.Goals as goal
 
 -- what the code has worked out: the point, whether it is inside, and its coordinates or 0
