@@ -13,7 +13,7 @@ ghost use Rattle.std.specs.Float.Ieee as Ieee;
 ghost use Rattle.std.specs.Float.Ieee.{in_signed, to_signed, to_unsigned};
 ghost use Rattle.std.specs.Float.Ieee.Scale.{finite};
 ghost use Rattle.lists.specs.Marked.{pick};
-ghost use Rattle.lists.specs.Premises.{InRange};
+ghost use Rattle.lists.specs.Premises.{InRange, Scratch};
 ghost use Rattle.floats.specs.Bound.{Within};
 ghost use Rattle.floats.specs.F32.{0f};
 ghost use Rattle.numbers.specs.Numbers.{Unsigned};
@@ -107,15 +107,6 @@ fn place_of<const FINITE: bool>(map: pose::Map, w: usize, h: usize, x: usize, y:
     }
 }
 
-// Room for what is worked out of a piece of a row, at most 256 pixels: a place, two weights and a flag for each.
-#[derive(Drop)]
-pub struct Scratch {
-    pub spots: [u32; 256],
-    pub across: [f32; 256],
-    pub down: [f32; 256],
-    pub flags: [u32; 256],
-}
-
 // Whether a number is finite and not too large.
 fn is_small(v: f32) -> bool
     ensures { result ≡ true → Within v (2 ^ 80) 1 }
@@ -137,7 +128,10 @@ fn is_tame(map: pose::Map) -> bool
 
 // Places, weights and flags of the `len` pixels from x on of the row y.
 fn fill_row<const FINITE: bool>(
-    scratch: &mut Scratch,
+    spots: &mut [u32],
+    across: &mut [f32],
+    down: &mut [f32],
+    flags: &mut [u32],
     map: pose::Map,
     w: usize,
     h: usize,
@@ -145,21 +139,25 @@ fn fill_row<const FINITE: bool>(
     y: usize,
     len: usize,
 )
-    requires { (w ≤ 4096) × (y < h) × (h ≤ 4096) × (x + len ≤ w) × (len ≤ 256) × (FINITE ≡ true → Small map) }
-    ensures { let s = scratch.new in PlacesOf map w h x y len s.spots s.across s.down s.flags }
+    requires { (w ≤ 4096) × (y < h) × (h ≤ 4096) × (x + len ≤ w) × Scratch len spots.old across.old down.old flags.old × (FINITE ≡ true → Small map) }
+    ensures { PlacesOf map w h x y len spots.new across.new down.new flags.new }
 {
     for k in 0..len {
         let p = place_of::<FINITE>(map, w, h, x + k, y);
-        scratch.spots[k] = p.at;
-        scratch.across[k] = p.across;
-        scratch.down[k] = p.down;
-        scratch.flags[k] = p.flag;
+        spots[k] = p.at;
+        across[k] = p.across;
+        down[k] = p.down;
+        flags[k] = p.flag;
     }
 }
 
-// The same, by the way that the map allows.
+// The same, by the way that the map allows. Four slices and no struct of arrays: it is said for slices of any length that suffices (`places_row` in
+// docs/DECISIONS.md, 19).
 pub fn places_row(
-    scratch: &mut Scratch,
+    spots: &mut [u32],
+    across: &mut [f32],
+    down: &mut [f32],
+    flags: &mut [u32],
     map: pose::Map,
     w: usize,
     h: usize,
@@ -167,12 +165,12 @@ pub fn places_row(
     y: usize,
     len: usize,
 )
-    requires { (w ≤ 4096) × (y < h) × (h ≤ 4096) × (x + len ≤ w) × (len ≤ 256) }
-    ensures { let s = scratch.new in PlacesOf map w h x y len s.spots s.across s.down s.flags }
+    requires { (w ≤ 4096) × (y < h) × (h ≤ 4096) × (x + len ≤ w) × Scratch len spots.old across.old down.old flags.old }
+    ensures { PlacesOf map w h x y len spots.new across.new down.new flags.new }
 {
     if is_tame(map) {
-        fill_row::<true>(scratch, map, w, h, x, y, len);
+        fill_row::<true>(spots, across, down, flags, map, w, h, x, y, len);
     } else {
-        fill_row::<false>(scratch, map, w, h, x, y, len);
+        fill_row::<false>(spots, across, down, flags, map, w, h, x, y, len);
     }
 }
