@@ -30,9 +30,10 @@ breaks_of spots from zero = 0
 breaks_of spots from (suc k) = breaks_of spots from k + pick (eqb (get_or spots (from + k + 1) 0) (get_or spots (from + k) 0 + 1)) 0 1
 
 -- the pixels from `from` to `to` of a piece that starts at the pixel `at` lie in it, and the four pixels of each lie within the image of n
-abbrev pub Placed : (n w at from to : ℕ) → List ℕ → List Float → Type 0
-Placed n w at from to spots xs =
-    (from ≤ to) × (at + to ≤ n) × (6 * n ≤ length xs) × (to ≤ 256) × ((x : ℕ) → from ≤ x → x < to → get_or spots x 0 + w + 1 < n)
+abbrev pub Placed : (n w at from to : ℕ) → List ℕ → List Float → List Float → List Float → Type 0
+Placed n w at from to spots across down xs =
+    (from ≤ to) × (at + to ≤ n) × (6 * n ≤ length xs) × (to ≤ length spots) × (to ≤ length across) × (to ≤ length down)
+    × ((x : ℕ) → from ≤ x → x < to → get_or spots x 0 + w + 1 < n)
 
 -- these pixels are read by their places and weights into each of the images 3 to 5, and nothing else has changed
 abbrev pub Taken : (n w at from to : ℕ) → List ℕ → List Float → List Float → List Float → List Float → Type 0

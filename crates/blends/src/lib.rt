@@ -10,8 +10,6 @@ ghost use Rattle.std.specs.Float.{nan};
 ghost use Rattle.lists.specs.Lists.{tab, put};
 ghost use Rattle.blends.specs.Reads.{four_at, ThreeOf, breaks_of, Placed, Taken};
 
-use places::Scratch;
-
 // A pixel of the three warped images.
 #[derive(Clone, Copy)]
 struct Three(f32, f32, f32);
@@ -42,22 +40,24 @@ fn mix(part: &[f32], w: usize, n: usize, i: usize, a: f32, b: f32) -> Three
 // The pixels from `from` to `to` of a piece that starts at the pixel `at`, each of them by its own place and weights.
 fn by_place(
     part: &mut [f32],
-    scratch: &Scratch,
+    spots: &[u32],
+    across: &[f32],
+    down: &[f32],
     w: usize,
     n: usize,
     at: usize,
     from: usize,
     to: usize,
 )
-    requires { Placed n w at from to scratch.now.spots part.old }
-    ensures { Taken n w at from to scratch.now.spots scratch.now.across scratch.now.down part.old part.new }
+    requires { Placed n w at from to spots.now across.now down.now part.old }
+    ensures { Taken n w at from to spots.now across.now down.now part.old part.new }
 {
     let first = 3 * n + at;
     let second = 4 * n + at;
     let third = 5 * n + at;
     for x in from..to {
-        let i = scratch.spots[x] as usize;
-        let p = mix(part, w, n, i, scratch.across[x], scratch.down[x]);
+        let i = spots[x] as usize;
+        let p = mix(part, w, n, i, across[x], down[x]);
         part[first + x] = p.0;
         part[second + x] = p.1;
         part[third + x] = p.2;
@@ -81,19 +81,20 @@ fn breaks(spots: &[u32], from: usize, to: usize) -> u32
 // `len` pixels whose places follow one another from i on, by the weights from `from` on: written from `to` on.
 fn blend_row(
     part: &mut [f32],
-    scratch: &Scratch,
+    across: &[f32],
+    down: &[f32],
     w: usize,
     i: usize,
     to: usize,
     from: usize,
     len: usize,
 )
-    requires { (i + len + w < to) × (to + len ≤ length part.old) × (from + len ≤ 256) }
+    requires { (i + len + w < to) × (to + len ≤ length part.old) × (from + len ≤ length across.now) × (from + len ≤ length down.now) }
     ensures { let xs = part.old in
-        part.new ≡ put xs to (tab len (λ x. four_at xs w (i + x) (get_or scratch.now.across (from + x) nan) (get_or scratch.now.down (from + x) nan))) }
+        part.new ≡ put xs to (tab len (λ x. four_at xs w (i + x) (get_or across.now (from + x) nan) (get_or down.now (from + x) nan))) }
 {
     for x in 0..len {
-        let (a, b) = (scratch.across[from + x], scratch.down[from + x]);
+        let (a, b) = (across[from + x], down[from + x]);
         part[to + x] = blend(part, w, i + x, a, b);
     }
 }
@@ -101,68 +102,75 @@ fn blend_row(
 // The same pixels as `by_place`, where their places follow one another: one image after the other.
 fn by_run(
     part: &mut [f32],
-    scratch: &Scratch,
+    spots: &[u32],
+    across: &[f32],
+    down: &[f32],
     w: usize,
     n: usize,
     at: usize,
     from: usize,
     to: usize,
 )
-    requires { (from < to) × (breaks_of scratch.now.spots from (to - from - 1) ≡ 0) × Placed n w at from to scratch.now.spots part.old }
-    ensures { Taken n w at from to scratch.now.spots scratch.now.across scratch.now.down part.old part.new }
+    requires { (from < to) × (breaks_of spots.now from (to - from - 1) ≡ 0) × Placed n w at from to spots.now across.now down.now part.old }
+    ensures { Taken n w at from to spots.now across.now down.now part.old part.new }
 {
     let len = to - from;
-    let i = scratch.spots[from] as usize;
-    blend_row(part, scratch, w, i, 3 * n + at + from, from, len);
-    blend_row(part, scratch, w, n + i, 4 * n + at + from, from, len);
-    blend_row(part, scratch, w, 2 * n + i, 5 * n + at + from, from, len);
+    let i = spots[from] as usize;
+    blend_row(part, across, down, w, i, 3 * n + at + from, from, len);
+    blend_row(part, across, down, w, n + i, 4 * n + at + from, from, len);
+    blend_row(part, across, down, w, 2 * n + i, 5 * n + at + from, from, len);
 }
 
 // The same pixels, where a break lies somewhere among them: sixteen at a time, as a run or each by its own place.
 fn by_blocks(
     part: &mut [f32],
-    scratch: &Scratch,
+    spots: &[u32],
+    across: &[f32],
+    down: &[f32],
     w: usize,
     n: usize,
     at: usize,
     from: usize,
     to: usize,
 )
-    requires { (n ≤ 16777216) × Placed n w at from to scratch.now.spots part.old }
-    ensures { Taken n w at from to scratch.now.spots scratch.now.across scratch.now.down part.old part.new }
+    requires { (n ≤ 16777216) × Placed n w at from to spots.now across.now down.now part.old }
+    ensures { Taken n w at from to spots.now across.now down.now part.old part.new }
 {
     // By hand: the last block may be shorter, and a range by steps of 16 is left in two places, each to be proved.
     let mut x = from;
     while x < to {
         let end = to.min(x + 16);
-        let broken = breaks(&scratch.spots, x, end);
+        let broken = breaks(spots, x, end);
         if broken == 0 {
-            by_run(part, scratch, w, n, at, x, end);
+            by_run(part, spots, across, down, w, n, at, x, end);
         } else {
-            by_place(part, scratch, w, n, at, x, end);
+            by_place(part, spots, across, down, w, n, at, x, end);
         }
         x = end;
     }
 }
 
-// The pixels from `from` to `to` of a piece that starts at the pixel `at`, each of them marked, are read by their places and weights.
+// The pixels from `from` to `to` of a piece that starts at the pixel `at`, each of them marked, are read by their places and weights. Three slices and no
+// struct of arrays: it is said for slices of any length that suffices (`reads_stretch` in docs/DECISIONS.md, 19).
 pub fn reads_stretch(
     part: &mut [f32],
-    scratch: &Scratch,
+    spots: &[u32],
+    across: &[f32],
+    down: &[f32],
     w: usize,
     n: usize,
     at: usize,
     from: usize,
     to: usize,
 )
-    requires { (n ≤ 16777216) × Placed n w at from to scratch.now.spots part.old }
-    ensures { Taken n w at from to scratch.now.spots scratch.now.across scratch.now.down part.old part.new }
+    requires { (n ≤ 16777216) × Placed n w at from to spots.now across.now down.now part.old }
+    ensures { Taken n w at from to spots.now across.now down.now part.old part.new }
 {
     if from < to {
-        if breaks(&scratch.spots, from, to) == 0 {
-            by_run(part, scratch, w, n, at, from, to);
+        if breaks(spots, from, to) == 0 {
+            by_run(part, spots, across, down, w, n, at, from, to);
         } else {
-            by_blocks(part, scratch, w, n, at, from, to);
+            by_blocks(part, spots, across, down, w, n, at, from, to);
         }
     }
 }

@@ -105,7 +105,7 @@ sum_between n d j D l u few =
 
 -- ---- what the code makes of x: 2 ^ 23 added and taken off
 
-abbrev big : Float
+abbrev pub big : Float
 big = of_bits binary32 0x4b00_0000
 
 abbrev pub nearly : Float → Float
@@ -115,7 +115,7 @@ nearly x = x ⊕ big ⊖ big
 abbrev Nearly : Float → ℕ → Type 0
 Nearly x j = ((nearly x ≡ f32 j) × (lt x (nearly x) ≡ false)) ⊎ ((nearly x ≡ f32 (suc j)) × (lt x (nearly x) ≡ true))
 
-add_big : (m : ℕ) (e : ℤ) → fin false m e ⊕ big ≡ round binary32 false (m * up e + 8388608 * down e) (down e)
+pub add_big : (m : ℕ) (e : ℤ) → fin false m e ⊕ big ≡ round binary32 false (m * up e + 8388608 * down e) (down e)
 unfolding add sum of_bits
 add_big m e = rw (mul-one (m * up e), mul-one (down e))
 

@@ -1,7 +1,7 @@
 -- Whole numbers near an f32, and its size: IEEE 754-2019's abs, roundToIntegralTowardNegative and roundToIntegralTiesToAway. Definitions only.
 -- A finite value is m * up e / down e with a sign. `round binary32 s n 1` is the whole number n as an f32 with the sign s: an answer keeps the
 -- sign of its argument, so that of a zero too.
-use Rattle.std.specs.Prelude.{ℕ, ◌+◌, ◌-◌, ◌*◌, ◌/◌, true, false, is_nan, Float}
+use Rattle.std.specs.Prelude.{ℕ, ◌+◌, ◌-◌, ◌*◌, ◌/◌, ◌≡◌, true, false, is_nan, Float}
 use Rattle.std.specs.Float.{nan, inf, fin, binary32}
 use Rattle.std.specs.Float.Ieee.{up, down, round, lt}
 use Rattle.lists.specs.Marked.{pick}
@@ -36,3 +36,9 @@ round_of (fin s m e) = round binary32 s (nearest_of (fin s m e)) 1
 unfoldable pub max_of : Float → Float → Float
 unfolding pick
 max_of x y = pick (is_nan x) y (pick (lt x y) y x)
+
+-- finite, and the sign's bit is clear
+abbrev pub Unsigned : Float → Type 0
+Unsigned nan = ⊥
+Unsigned (inf s) = ⊥
+Unsigned (fin s m e) = s ≡ false

@@ -1,12 +1,16 @@
 // Small helpers on f32 and whole numbers. Each gives exactly what its definition in specs/Numbers.antt says, for
 // every input; a whole number becomes an f32 only up to 2^24, below which nothing is lost.
+//
+// The compiler can take several turns of a loop at a time where the loop compares no floats and casts no whole number to a float: the kit puts a
+// fence around each of these, and no loop with a fence is taken so. to_f32_short, is_below_finite and floor_small do without, by the bits of
+// an f32, and are for such loops.
 #![tactic(auto)]
 
-ghost use Rattle.std.specs.Prelude.{◌≡◌, ◌^◌, ◌≤◌, min, pos};
+ghost use Rattle.std.specs.Prelude.{◌≡◌, ◌*◌, ◌^◌, ◌≤◌, T, min, pos};
 ghost use Rattle.std.specs.Float.Ieee as Ieee;
 ghost use Rattle.std.specs.Float.{binary32};
 ghost use Rattle.std.specs.Float.Ieee.Scale.{finite};
-ghost use Rattle.numbers.specs.Numbers.{abs_of, floor_of, round_of};
+ghost use Rattle.numbers.specs.Numbers.{abs_of, floor_of, round_of, Unsigned};
 ghost use Rattle.lists.specs.Marked.{pick};
 ghost use Rattle.floats.specs.Bound.{UpTo};
 ghost use Rattle.floats.specs.F32.{0f, 1f};
@@ -26,12 +30,12 @@ pub fn to_f32(n: usize) -> f32
     n as f32
 }
 
-// A number below 2^16 as f32: by way of 16 bits it is one instruction, and a loop takes several at a time.
+// A number below 2^16 as an f32, exactly and with no cast: from 2^23 on the bits of an f32 count by ones.
 pub fn to_f32_short(n: usize) -> f32
     requires { n ≤ 65535 }
     ensures { result ≡ Ieee.of_int binary32 (pos n) }
 {
-    n as u16 as f32
+    f32::from_bits(0x4b00_0000 + n as u32) - 8388608.0
 }
 
 // A byte as an f32, exactly.
@@ -80,14 +84,23 @@ fn one_if(holds: bool) -> f32
     if holds { 1.0 } else { 0.0 }
 }
 
-// The floor of an x from 0 to 2^22, with no branch to take: 2^23 is added and taken off, where no f32 has a fraction; 1 less where that is
-// too much. A zero comes back with no sign.
+// Whether a is below b, both finite and b with no sign, with no comparison: the sign of their difference tells. 0 is added so that -0 is not
+// below 0.
+pub fn is_below_finite(a: f32, b: f32) -> bool
+    requires { T (finite a) × Unsigned b }
+    ensures { result ≡ Ieee.lt a b }
+{
+    f32::to_bits(a + 0.0 - b) >= 0x8000_0000
+}
+
+// The floor of an x from 0 to 2^22, with no branch to take and no comparison: 2^23 is added and taken off, where no f32 has a fraction; 1 less
+// where that is too much. A zero comes back with no sign.
 pub fn floor_small(x: f32) -> f32
     requires { UpTo x 4194304 1 }
     ensures { result ≡ Ieee.of_int binary32 (pos (Ieee.to_unsigned 64 (floor_of x))) }
 {
     let f = (x + 8388608.0) - 8388608.0;
-    f - one_if(x < f)
+    f - one_if(is_below_finite(x, f))
 }
 
 // The whole number nearest to x, half away from zero: x itself for a zero, and from a size of 2^23 on.

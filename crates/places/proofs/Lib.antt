@@ -1,4 +1,4 @@
 pub mod Point
 pub mod Places
 pub mod Sizes
-pub mod Signs
+pub mod Finite

@@ -1,6 +1,5 @@
 -- Of document 000's warp_three_inverse_map: the computed point of a pixel, whether it lies inside, and the marks. Definitions only.
-use Rattle.std.specs.Prelude.{ℕ, ◌-◌, ◌^◌, ◌≡◌, Bool, false, ◌&&◌, List, Float}
-use Rattle.std.specs.Float.{nan, inf, fin}
+use Rattle.std.specs.Prelude.{ℕ, ◌-◌, ◌^◌, Bool, ◌&&◌, List, Float}
 use Rattle.std.specs.Float.Ieee.{le, lt, to_unsigned}
 use Rattle.lists.specs.Lists.{grid}
 use Rattle.lists.specs.Marked.{pick}
@@ -45,9 +44,3 @@ pub record Small (map : Map) : Type 0 where
   pub m10_small : Within map.m10 (2 ^ 80) 1
   pub m11_small : Within map.m11 (2 ^ 80) 1
   pub m12_small : Within map.m12 (2 ^ 80) 1
-
--- finite, and the sign's bit is clear
-abbrev pub Unsigned : Float → Type 0
-Unsigned nan = ⊥
-Unsigned (inf s) = ⊥
-Unsigned (fin s m e) = s ≡ false

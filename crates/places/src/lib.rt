@@ -3,8 +3,8 @@
 //
 // A pixel is marked exactly when its computed point lies inside: 0 <= sx < w - 1 and 0 <= sy < h - 1 in f32, so never where the point is a
 // NaN. The loop works out numbers alone and reads no image, so that the compiler can take several pixels at a time. It does so where no float
-// is compared and no whole number is cast to a float: the kit fences both. So numbers become floats by their bits, and of a map whose entries
-// are small the sign of a difference tells what is below. Of another map, whose points may be NaNs, floats are compared.
+// is compared and no whole number is cast to a float: it calls the helpers of crate numbers that do neither (the head there says why). They ask
+// for finite numbers, and the points of a map whose entries are small are finite. Of another map, whose points may be NaNs, floats are compared.
 #![tactic(auto)]
 
 ghost use Rattle.std.specs.Prelude.{◌≡◌, ◌+◌, ◌*◌, ◌^◌, ◌≤◌, ◌<◌, T, true, false, pos};
@@ -13,11 +13,11 @@ ghost use Rattle.std.specs.Float.Ieee as Ieee;
 ghost use Rattle.std.specs.Float.Ieee.{in_signed, to_signed, to_unsigned};
 ghost use Rattle.std.specs.Float.Ieee.Scale.{finite};
 ghost use Rattle.lists.specs.Marked.{pick};
-ghost use Rattle.lists.specs.Premises.{InRange};
-ghost use Rattle.floats.specs.Bound.{Within, UpTo};
+ghost use Rattle.lists.specs.Premises.{InRange, Scratch};
+ghost use Rattle.floats.specs.Bound.{Within};
 ghost use Rattle.floats.specs.F32.{0f};
-ghost use Rattle.numbers.specs.Numbers.{floor_of};
-ghost use Rattle.places.specs.Point.{sx_of, sy_of, inside, Small, Unsigned};
+ghost use Rattle.numbers.specs.Numbers.{Unsigned};
+ghost use Rattle.places.specs.Point.{sx_of, sy_of, inside, Small};
 ghost use Rattle.places.specs.Places.{PlaceOf, PlacesOf};
 
 // The source of a pixel: where the top left of its four pixels lies, the weights of the right and of the lower ones, and its flag.
@@ -29,36 +29,28 @@ struct Place {
     flag: u32,
 }
 
-// A whole number as an f32, exactly: from 2^23 on the bits of an f32 count by ones.
-fn exactly(n: usize) -> f32
-    requires { n ≤ 4096 }
-    ensures { result ≡ Ieee.of_int binary32 (pos n) }
-{
-    f32::from_bits(0x4b00_0000 + n as u32) - 8388608.0
-}
-
 // The computed point of the pixel x, y.
 fn point_x(map: pose::Map, x: usize, y: usize) -> f32
     requires { (x ≤ 4096) × (y ≤ 4096) }
     ensures { result ≡ sx_of map x y }
 {
-    map.m00 * exactly(x) + map.m01 * exactly(y) + map.m02
+    map.m00 * numbers::to_f32_short(x) + map.m01 * numbers::to_f32_short(y) + map.m02
 }
 
 fn point_y(map: pose::Map, x: usize, y: usize) -> f32
     requires { (x ≤ 4096) × (y ≤ 4096) }
     ensures { result ≡ sy_of map x y }
 {
-    map.m10 * exactly(x) + map.m11 * exactly(y) + map.m12
+    map.m10 * numbers::to_f32_short(x) + map.m11 * numbers::to_f32_short(y) + map.m12
 }
 
-// Whether a is below b, a number with no sign. Of finite numbers the sign of their difference tells; 0 is added so that -0 is not below 0.
+// Whether a is below b. With FINITE both are finite and b has no sign, so that no floats are compared.
 fn is_below<const FINITE: bool>(a: f32, b: f32) -> bool
     requires { FINITE ≡ true → T (finite a) × Unsigned b }
     ensures { result ≡ Ieee.lt a b }
 {
     if FINITE {
-        f32::to_bits(a + 0.0 - b) >= 0x8000_0000
+        numbers::is_below_finite(a, b)
     } else {
         a < b
     }
@@ -69,8 +61,8 @@ fn is_inside<const FINITE: bool>(w: usize, h: usize, sx: f32, sy: f32) -> bool
     requires { InRange w h × (FINITE ≡ true → T (finite sx) × T (finite sy)) }
     ensures { result ≡ inside w h sx sy }
 {
-    let right = exactly(w - 1);
-    let low = exactly(h - 1);
+    let right = numbers::to_f32_short(w - 1);
+    let low = numbers::to_f32_short(h - 1);
     !is_below::<FINITE>(sx, 0.0)
         & !is_below::<FINITE>(sy, 0.0)
         & is_below::<FINITE>(sx, right)
@@ -82,15 +74,6 @@ fn or_zero(holds: bool, s: f32) -> f32
     ensures { result ≡ pick holds s 0f }
 {
     if holds { s } else { 0.0 }
-}
-
-// The floor of an x from 0 to 2^22: 2^23 is added and taken off, where no f32 has a fraction; 1 less where that is too much.
-fn floor_small(x: f32) -> f32
-    requires { UpTo x 4194304 1 }
-    ensures { result ≡ Ieee.of_int binary32 (pos (Ieee.to_unsigned 64 (floor_of x))) }
-{
-    let f = (x + 8388608.0) - 8388608.0;
-    f - or_zero(is_below::<true>(x, f), 1.0)
 }
 
 // A whole number that is an f32, as one that indexes. By way of a signed number it is one instruction, and a loop takes several at a time.
@@ -112,9 +95,9 @@ fn place_of<const FINITE: bool>(map: pose::Map, w: usize, h: usize, x: usize, y:
     let within = is_inside::<FINITE>(w, h, sx, sy);
     let tx = or_zero(within, sx);
     let ty = or_zero(within, sy);
-    let x0 = floor_small(tx);
-    let y0 = floor_small(ty);
-    let at = index(y0 * exactly(w) + x0);
+    let x0 = numbers::floor_small(tx);
+    let y0 = numbers::floor_small(ty);
+    let at = index(y0 * numbers::to_f32_short(w) + x0);
     let flag = bits::flag(within, y * w + x);
     Place {
         at,
@@ -122,15 +105,6 @@ fn place_of<const FINITE: bool>(map: pose::Map, w: usize, h: usize, x: usize, y:
         down: ty - y0,
         flag,
     }
-}
-
-// Room for what is worked out of a piece of a row, at most 256 pixels: a place, two weights and a flag for each.
-#[derive(Drop)]
-pub struct Scratch {
-    pub spots: [u32; 256],
-    pub across: [f32; 256],
-    pub down: [f32; 256],
-    pub flags: [u32; 256],
 }
 
 // Whether a number is finite and not too large.
@@ -154,7 +128,10 @@ fn is_tame(map: pose::Map) -> bool
 
 // Places, weights and flags of the `len` pixels from x on of the row y.
 fn fill_row<const FINITE: bool>(
-    scratch: &mut Scratch,
+    spots: &mut [u32],
+    across: &mut [f32],
+    down: &mut [f32],
+    flags: &mut [u32],
     map: pose::Map,
     w: usize,
     h: usize,
@@ -162,21 +139,25 @@ fn fill_row<const FINITE: bool>(
     y: usize,
     len: usize,
 )
-    requires { (w ≤ 4096) × (y < h) × (h ≤ 4096) × (x + len ≤ w) × (len ≤ 256) × (FINITE ≡ true → Small map) }
-    ensures { let s = scratch.new in PlacesOf map w h x y len s.spots s.across s.down s.flags }
+    requires { (w ≤ 4096) × (y < h) × (h ≤ 4096) × (x + len ≤ w) × Scratch len spots.old across.old down.old flags.old × (FINITE ≡ true → Small map) }
+    ensures { PlacesOf map w h x y len spots.new across.new down.new flags.new }
 {
     for k in 0..len {
         let p = place_of::<FINITE>(map, w, h, x + k, y);
-        scratch.spots[k] = p.at;
-        scratch.across[k] = p.across;
-        scratch.down[k] = p.down;
-        scratch.flags[k] = p.flag;
+        spots[k] = p.at;
+        across[k] = p.across;
+        down[k] = p.down;
+        flags[k] = p.flag;
     }
 }
 
-// The same, by the way that the map allows.
+// The same, by the way that the map allows. Four slices and no struct of arrays: it is said for slices of any length that suffices (`places_row` in
+// docs/DECISIONS.md, 19).
 pub fn places_row(
-    scratch: &mut Scratch,
+    spots: &mut [u32],
+    across: &mut [f32],
+    down: &mut [f32],
+    flags: &mut [u32],
     map: pose::Map,
     w: usize,
     h: usize,
@@ -184,12 +165,12 @@ pub fn places_row(
     y: usize,
     len: usize,
 )
-    requires { (w ≤ 4096) × (y < h) × (h ≤ 4096) × (x + len ≤ w) × (len ≤ 256) }
-    ensures { let s = scratch.new in PlacesOf map w h x y len s.spots s.across s.down s.flags }
+    requires { (w ≤ 4096) × (y < h) × (h ≤ 4096) × (x + len ≤ w) × Scratch len spots.old across.old down.old flags.old }
+    ensures { PlacesOf map w h x y len spots.new across.new down.new flags.new }
 {
     if is_tame(map) {
-        fill_row::<true>(scratch, map, w, h, x, y, len);
+        fill_row::<true>(spots, across, down, flags, map, w, h, x, y, len);
     } else {
-        fill_row::<false>(scratch, map, w, h, x, y, len);
+        fill_row::<false>(spots, across, down, flags, map, w, h, x, y, len);
     }
 }

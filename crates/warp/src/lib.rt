@@ -16,13 +16,21 @@ ghost use Rattle.warp.specs.Warp.{Warped};
 ghost use Rattle.blends.specs.Reads.{three_rows};
 ghost use Rattle.warp.specs.Rows.{read_of, Reach, Holding, WarpedThrough};
 
-use places::Scratch;
 
 // What the warp has marked: how many pixels, and the first and the last row that hold one.
 #[derive(Clone, Copy)]
 pub struct Found {
     pub count: usize,
     pub rows: Option<rows::Rows>,
+}
+
+// Room for what is worked out of a piece of a row, at most 256 pixels: a place, two weights and a flag for each.
+#[derive(Drop)]
+struct Scratch {
+    spots: [u32; 256],
+    across: [f32; 256],
+    down: [f32; 256],
+    flags: [u32; 256],
 }
 
 // The pixels from `from` to `to` of the image, none of them marked, become +0 in the images 3 to 5. One loop for all three: mostly it is one pixel.
@@ -61,7 +69,7 @@ fn reads(
     while x < len {
         let r = bits::next_stretch(marks, at + x, at + len);
         clear_stretch(part, n, at + x, r.from);
-        blends::reads_stretch(part, scratch, w, n, at, r.from - at, r.to - at);
+        blends::reads_stretch(part, &scratch.spots, &scratch.across, &scratch.down, w, n, at, r.from - at, r.to - at);
         x = r.to - at;
     }
 }
@@ -83,7 +91,7 @@ fn warp_piece(
     ensures { WarpedThrough map w h (y * w + x) len part.old marks.old part.new marks.new }
 {
     let at = y * w + x;
-    places::places_row(scratch, map, w, h, x, y, len);
+    places::places_row(&mut scratch.spots, &mut scratch.across, &mut scratch.down, &mut scratch.flags, map, w, h, x, y, len);
     bits::pack(&scratch.flags, marks, at, len);
     reads(part, marks, scratch, w, w * h, at, len);
 }

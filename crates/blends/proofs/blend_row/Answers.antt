@@ -15,5 +15,5 @@ loop-x-preserved c =
     let a = c.args in (
       omega arith,
       simp length-set l.invariant.1,
-      row_more a.part.now a.scratch.now.across a.scratch.now.down a.w a.i a.from a.len a.to (omega arith) l.x (omega arith) l.part l.invariant.2 c.blend.result c.blend.ensures,
+      row_more a.part.now a.across.now a.down.now a.w a.i a.from a.len a.to (omega arith) l.x (omega arith) l.part l.invariant.2 c.blend.result c.blend.ensures,
     )

@@ -7,4 +7,4 @@ use Rattle.blends.proofs.Runs.{row_rule}
 use Rattle.blends.proofs.blend_row.Given as goal
 
 abbrev pub invariant-loop-x : goal.invariant-loop-x
-invariant-loop-x l = (l.x ≤ l.len) × (length l.part ≡ length l.initial.part) × (l.part ≡ put l.initial.part l.to (tab l.x (row_rule l.initial.part l.scratch.across l.scratch.down l.w l.i l.from)))
+invariant-loop-x l = (l.x ≤ l.len) × (length l.part ≡ length l.initial.part) × (l.part ≡ put l.initial.part l.to (tab l.x (row_rule l.initial.part l.across l.down l.w l.i l.from)))

@@ -11,34 +11,32 @@ loop-x-init c =
     stretch_start a.n (a.at + a.from) a.from a.to _ a.part.now (omega arith)
 
 pub breaks-broken-requires : goal.breaks-broken-requires
-breaks-broken-requires c = (omega arith, omega arith, omega arith, λ x p q. omega (arith, c.requires.1.4 x (omega (arith, c.loop-x.invariant.low)) (omega arith)))
+breaks-broken-requires c = (omega arith, omega arith, omega arith, λ x p q. omega (arith, c.requires.1.6 x (omega (arith, c.loop-x.invariant.low)) (omega arith)))
 
 pub by_run-requires : goal.by_run-requires
 by_run-requires c =
     let i = c.loop-x.invariant in (
       omega arith,
       sym c.breaks-broken.ensures ∙ c.if-broken-eq0.true,
-      (omega arith, omega arith, omega (arith, i.part_length), omega arith, λ x p q. c.requires.1.4 x (omega (arith, i.low)) (omega arith)),
+      (omega arith, omega arith, omega (arith, i.part_length), omega arith, omega arith, omega arith, λ x p q. c.requires.1.6 x (omega (arith, i.low)) (omega arith)),
     )
 
 pub by_place-requires : goal.by_place-requires
 by_place-requires c =
     let i = c.loop-x.invariant in
-    (omega arith, omega arith, omega (arith, i.part_length), omega arith, λ x p q. c.requires.1.4 x (omega (arith, i.low)) (omega arith))
+    (omega arith, omega arith, omega (arith, i.part_length), omega arith, omega arith, omega arith, λ x p q. c.requires.1.6 x (omega (arith, i.low)) (omega arith))
 
 pub loop-x-preserved-then-broken-eq0 : goal.loop-x-preserved-then-broken-eq0
 loop-x-preserved-then-broken-eq0 c =
     let l = c.loop-x in
     let a = c.args in
-    let s = a.scratch.now in
-    taken_block a.n a.w a.at a.from a.to s.spots s.across s.down a.part.now (omega arith) l.part _ l.x c.min-end.result (omega arith) (omega arith) l.invariant c.by_run.ensures
+    taken_block a.n a.w a.at a.from a.to a.spots.now a.across.now a.down.now a.part.now (omega arith) l.part _ l.x c.min-end.result (omega arith) (omega arith) l.invariant c.by_run.ensures
 
 pub loop-x-preserved : goal.loop-x-preserved
 loop-x-preserved c =
     let l = c.loop-x in
     let a = c.args in
-    let s = a.scratch.now in
-    taken_block a.n a.w a.at a.from a.to s.spots s.across s.down a.part.now (omega arith) l.part _ l.x c.min-end.result (omega arith) (omega arith) l.invariant c.by_place.ensures
+    taken_block a.n a.w a.at a.from a.to a.spots.now a.across.now a.down.now a.part.now (omega arith) l.part _ l.x c.min-end.result (omega arith) (omega arith) l.invariant c.by_place.ensures
 
 pub returns : goal.returns
 returns c =

@@ -4,7 +4,7 @@ use Rattle.blends.proofs.Stretch.{StretchHeld, taken}
 use Rattle.blends.proofs.by_blocks.Given as goal
 
 abbrev pub invariant-loop-x : goal.invariant-loop-x
-invariant-loop-x l = StretchHeld l.n (l.at + l.from) l.from l.to (taken l.n l.w l.at l.from l.to l.scratch.spots l.scratch.across l.scratch.down l.initial.part) l.initial.part l.part l.x
+invariant-loop-x l = StretchHeld l.n (l.at + l.from) l.from l.to (taken l.n l.w l.at l.from l.to l.spots l.across l.down l.initial.part) l.initial.part l.part l.x
 
 abbrev pub decreases-loop-x : goal.decreases-loop-x
 decreases-loop-x l = l.to - l.x

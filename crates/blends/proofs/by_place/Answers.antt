@@ -13,14 +13,13 @@ loop-x-init c =
 pub mix-p-requires : goal.mix-p-requires
 mix-p-requires c =
     let l = c.loop-x in
-    (omega (arith, l.invariant.part_length), omega (arith, c.requires.4 l.x l.invariant.low (omega arith)))
+    (omega (arith, l.invariant.part_length), omega (arith, c.requires.6 l.x l.invariant.low (omega arith)))
 
 pub loop-x-preserved : goal.loop-x-preserved
 loop-x-preserved c =
     let l = c.loop-x in
     let a = c.args in
-    let s = a.scratch.now in
-    taken_turn a.n a.w a.at a.from a.to s.spots s.across s.down a.part.now (omega arith) l.part l.x _ c.mix-p.result (omega arith) l.invariant refl c.mix-p.ensures
+    taken_turn a.n a.w a.at a.from a.to a.spots.now a.across.now a.down.now a.part.now (omega arith) l.part l.x _ c.mix-p.result (omega arith) l.invariant refl c.mix-p.ensures
 
 pub returns : goal.returns
 returns c =

@@ -4,4 +4,4 @@ use Rattle.blends.proofs.Stretch.{StretchHeld, taken}
 use Rattle.blends.proofs.by_place.Given as goal
 
 abbrev pub invariant-loop-x : goal.invariant-loop-x
-invariant-loop-x l = StretchHeld l.n (l.at + l.from) l.from l.to (taken l.n l.w l.at l.from l.to l.scratch.spots l.scratch.across l.scratch.down l.initial.part) l.initial.part l.part l.x
+invariant-loop-x l = StretchHeld l.n (l.at + l.from) l.from l.to (taken l.n l.w l.at l.from l.to l.spots l.across l.down l.initial.part) l.initial.part l.part l.x

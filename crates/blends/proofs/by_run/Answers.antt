@@ -22,24 +22,23 @@ pub blend_row-requires : goal.blend_row-requires
 blend_row-requires c =
     let a = c.args in
     let r = c.requires in
-    (omega (arith, inside a.scratch.now.spots a.from a.to a.n a.w r.0 r.1 r.2.4), omega arith, omega arith)
+    (omega (arith, inside a.spots.now a.from a.to a.n a.w r.0 r.1 r.2.6), omega arith, omega arith, omega arith)
 
 pub blend_row-requires-2 : goal.blend_row-requires-2
 blend_row-requires-2 c =
     let a = c.args in
     let r = c.requires in
-    (omega (arith, inside a.scratch.now.spots a.from a.to a.n a.w r.0 r.1 r.2.4), omega (arith, c.blend_row.auto.part), omega arith)
+    (omega (arith, inside a.spots.now a.from a.to a.n a.w r.0 r.1 r.2.6), omega (arith, c.blend_row.auto.part), omega arith, omega arith)
 
 pub blend_row-requires-3 : goal.blend_row-requires-3
 blend_row-requires-3 c =
     let a = c.args in
     let r = c.requires in
-    (omega (arith, inside a.scratch.now.spots a.from a.to a.n a.w r.0 r.1 r.2.4), omega (arith, c.blend_row.auto.part, c.blend_row-2.auto.part), omega arith)
+    (omega (arith, inside a.spots.now a.from a.to a.n a.w r.0 r.1 r.2.6), omega (arith, c.blend_row.auto.part, c.blend_row-2.auto.part), omega arith, omega arith)
 
 pub returns : goal.returns
 returns c =
     let a = c.args in
-    let s = a.scratch.now in
     let r = c.requires in
-    run_rows a.n a.w a.at a.from (a.to - a.from) s.spots s.across s.down a.part.now (get_or s.spots a.from 0)
-    (follow s.spots a.from a.to a.n a.w r.0 r.1) (inside s.spots a.from a.to a.n a.w r.0 r.1 r.2.4) (omega arith) _ _ _ c.blend_row.ensures c.blend_row-2.ensures c.blend_row-3.ensures
+    run_rows a.n a.w a.at a.from (a.to - a.from) a.spots.now a.across.now a.down.now a.part.now (get_or a.spots.now a.from 0)
+    (follow a.spots.now a.from a.to a.n a.w r.0 r.1) (inside a.spots.now a.from a.to a.n a.w r.0 r.1 r.2.6) (omega arith) _ _ _ c.blend_row.ensures c.blend_row-2.ensures c.blend_row-3.ensures

@@ -11,5 +11,5 @@ pub returns-else-from-to : goal.returns-else-from-to
 returns-else-from-to c =
     let a = c.args in
     let none : 0 ≡ a.to - a.from = omega arith in
-    let rule = taken a.n a.w a.at a.from a.to a.scratch.now.spots a.scratch.now.across a.scratch.now.down a.part.now in
+    let rule = taken a.n a.w a.at a.from a.to a.spots.now a.across.now a.down.now a.part.now in
     three_none a.n (a.at + a.from) rule a.part.now ∙ ap (λ (m : ℕ). three_rows a.n (a.at + a.from) m rule a.part.now) none

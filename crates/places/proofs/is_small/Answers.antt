@@ -1,7 +1,7 @@
 -- `places::is_small` meets its contract. Assumes nothing.
 use mathlib.Core.Path.{sym, subst}
 use lib.Dec.{T}
-use Rattle.places.proofs.Signs.{small_is}
+use Rattle.places.proofs.Finite.{small_is}
 use Rattle.places.proofs.is_small.Goals as goal
 
 pub returns-then-v : goal.returns-then-v

@@ -15,7 +15,7 @@ use Rattle.places.specs.Point.{sx_of, sy_of, inside, marked_at, index_of}
 use Rattle.places.specs.Places.{PlaceOf}
 use Rattle.places.specs.declared.Place.{Place}
 use Rattle.places.proofs.Point.{zeroed_x, zeroed_y, zeroed_x_lem, zeroed_y_lem, spot_is, place_of}
-use Rattle.places.proofs.Signs.{finite_x, finite_y}
+use Rattle.places.proofs.Finite.{finite_x, finite_y}
 use Rattle.places.proofs.place_of.Goals as goal
 
 -- what the code has worked out: the point, whether it is inside, and its coordinates or 0
@@ -77,12 +77,12 @@ pub index-at-requires : goal.index-at-requires
 unfolding index_of
 index-at-requires g c =
     let a = c.args in
-    let p = spot a.map a.w a.h a.x a.y (omega arith) (omega arith) _ _ _ _ _ c.point_x-sx.ensures c.point_y-sy.ensures c.is_inside-within.ensures c.or_zero-tx.ensures c.or_zero-ty.ensures _ _ _ c.floor_small-x0.ensures c.floor_small-y0.ensures c.exactly.ensures in
+    let p = spot a.map a.w a.h a.x a.y (omega arith) (omega arith) _ _ _ _ _ c.point_x-sx.ensures c.point_y-sy.ensures c.is_inside-within.ensures c.or_zero-tx.ensures c.or_zero-ty.ensures _ _ _ c.floor_small-x0.ensures c.floor_small-y0.ensures c.to_f32_short.ensures in
     (p.0, p.1)
 
 pub returns : goal.returns
 unfolding index_of
 returns g c =
     let a = c.args in
-    placed a.map a.w a.h a.x a.y (omega arith) (omega arith) _ _ _ _ _ c.point_x-sx.ensures c.point_y-sy.ensures c.is_inside-within.ensures c.or_zero-tx.ensures c.or_zero-ty.ensures _ _ _ c.floor_small-x0.ensures c.floor_small-y0.ensures c.exactly.ensures
+    placed a.map a.w a.h a.x a.y (omega arith) (omega arith) _ _ _ _ _ c.point_x-sx.ensures c.point_y-sy.ensures c.is_inside-within.ensures c.or_zero-tx.ensures c.or_zero-ty.ensures _ _ _ c.floor_small-x0.ensures c.floor_small-y0.ensures c.to_f32_short.ensures
     _ c.index-at.ensures refl refl c.flag-flag.ensures

@@ -4,4 +4,4 @@ use Rattle.places.proofs.point_y.Goals as goal
 
 pub returns : goal.returns
 unfolding sy_of
-returns c = rw (c.exactly.ensures, c.exactly-2.ensures)
+returns c = rw (c.to_f32_short.ensures, c.to_f32_short-2.ensures)

@@ -30,6 +30,8 @@ reads_stretch-requires c =
         omega (arith, o.low, o.order, o.high),
         omega (arith, l.invariant.part_length, kept),
         omega (arith, o.high),
+        omega (arith, o.high),
+        omega (arith, o.high),
         λ x p q. f.5.reach x (omega (arith, o.low, o.high)) (stretch_full a.marks.now a.n (a.at + a.len) (a.at + l.x) r f.0 o (a.at + x) (omega (arith, o.low)) (omega (arith, o.low, o.order))),
       ),
     )

@@ -27,7 +27,7 @@ overflow_add-at c =
 
 pub pack-requires : goal.pack-requires
 pack-requires c =
-    let flags : let a = c.args in Flags c.places_row.new.scratch.flags (a.y * a.w + a.x) a.len =
+    let flags : let a = c.args in Flags c.places_row.new.flags (a.y * a.w + a.x) a.len =
     let a = c.args in piece_flags a.map a.w a.h a.x a.y a.len _ _ _ _ c.places_row.ensures (c.requires.1, c.requires.2) in
     let row : let a = c.args in a.y * a.w + a.w ≤ a.w * a.h =
     let a = c.args in row_in a.w a.y a.h c.requires.1 in
@@ -38,7 +38,7 @@ pack-requires c =
 
 pub reads-requires : goal.reads-requires
 reads-requires c =
-    let reach : let a = c.args in Reach (a.w * a.h) a.w (a.y * a.w + a.x) a.len (unpacked_of c.pack.new.words (a.w * a.h)) c.places_row.new.scratch.spots =
+    let reach : let a = c.args in Reach (a.w * a.h) a.w (a.y * a.w + a.x) a.len (unpacked_of c.pack.new.words (a.w * a.h)) c.places_row.new.spots =
     let a = c.args in
     piece_reach a.map a.w a.h a.x a.y a.len _ _ _ _ c.places_row.ensures (c.requires.1, c.requires.2) a.marks.now _ c.requires.4 c.requires.6 c.pack.ensures c.requires.0.w_most c.requires.0.h_most in
     let row : let a = c.args in a.y * a.w + a.w ≤ a.w * a.h =

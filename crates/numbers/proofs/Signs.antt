@@ -1,30 +1,27 @@
--- What is below what, told by the sign of a difference; the points of a map with small entries are finite. Assumes nothing.
+-- What is below a number with no sign, told by the sign of a difference; numbers that have no sign. Assumes nothing.
 use mathlib.Core.Path.{◌≡◌, refl, sym, ap, ◌∙◌, subst}
-use mathlib.Core.Bool.{Bool, true, false, not, ◌&&◌, cond, true≢false}
+use mathlib.Core.Bool.{Bool, true, false, not, cond, true≢false}
 use mathlib.Core.Logic.{inl, inr}
-use Prim.Native.Nat.{ℕ, zero, suc, ◌+◌, ◌-◌, ◌*◌, ◌/◌, ◌%◌, ◌^◌, ◌≤◌, ◌<◌}
-use native.Mathlib.Nat.{zero-mul, mul-one, zero-add, mul-pos, lt_of_lt_of_le, lt_irrefl, le-add_right}
+use Prim.Native.Nat.{ℕ, zero, suc, ◌+◌, ◌-◌, ◌*◌, ◌^◌, ◌≤◌, ◌<◌}
+use native.Mathlib.Nat.{zero-mul, zero-add, mul-pos, lt_of_lt_of_le, le-add_right}
 use native.Mathlib.Omega.{arith}
 use borrow.Author.Tests.{lt-ltb, le-ltb}
-use lib.Dec.{T, ltb, leb, eqb, eqb-zero-suc, lit<, lit≤}
+use lib.Dec.{T, ltb, leb, lit≤}
 use lib.IntN.{ℤ, pos}
-use lib.Ieee.{Float, nan, inf, fin, binary32, up, down, is_nan, round, sum, add, neg, sub, lt, eq, le, fits, of_int, of_bits, to_bits}
-use lib.Ieee.Fits.{down_pos, up_pos, add-fits, of_int-fits}
-use lib.Ieee.Bits.{of_bits-fits}
+use lib.Ieee.{Float, nan, inf, fin, binary32, up, down, is_nan, round, sum, add, neg, sub, lt, fits, of_bits, to_bits}
+use lib.Ieee.Fits.{down_pos, up_pos, add-fits}
 use lib.Ieee.Exact.{HasValue}
 use lib.Ieee.Scale.{finite}
 use Rattle.floats.specs.Bound.{Within, UpTo, AtLeast}
-use Rattle.floats.specs.F32.{◌⊕◌, ◌⊖◌, ◌⊗◌, f32, 0f}
-use Rattle.floats.proofs.Within.{Signed, round_signed, round_within, within_finite, within_more, mul_within, add_within, rep_down, rep_up, rep_pow}
-use Rattle.floats.proofs.Exactly.{whole_is, value_unique, value_over, value_within}
-use Rattle.floats.proofs.Signs.{within_of_le, sub_is, sub_whole, sub_within_max, round_at_least}
-use Rattle.floats.proofs.Tests.{below_zero, above_zero, zero_is}
-use Rattle.floats.proofs.Patterns.{own_pattern, bits_value, units_normal}
+use Rattle.floats.specs.F32.{◌⊕◌, ◌⊖◌, f32, 0f}
+use Rattle.floats.proofs.Within.{Signed, round_signed, round_within, within_finite, rep_down}
+use Rattle.floats.proofs.Exactly.{whole_is}
+use Rattle.floats.proofs.Signs.{sub_is, sub_within_max, round_at_least}
+use Rattle.floats.proofs.Tests.{zero_is}
+use Rattle.floats.proofs.Patterns.{own_pattern}
 use Rattle.floats.proofs.Zeros.{Zero, plus_zero}
-use Rattle.floats.specs.Units.{units_at}
-use Rattle.numbers.proofs.Small.{nearly}
-use Rattle.pose.specs.declared.Map.{Map}
-use Rattle.places.specs.Point.{sx_of, sy_of, inside, Small, Unsigned}
+use Rattle.numbers.specs.Numbers.{Unsigned}
+use Rattle.numbers.proofs.Small.{big, nearly, add_big}
 
 -- ---- the highest bit is the sign
 
@@ -114,88 +111,6 @@ module _ (a b : Float) (f : T (fits binary32 a)) (g : T (finite a)) (u : Unsigne
   pub below_number : T (not (is_nan (a ⊕ 0f ⊖ b)))
   below_number = signed_number (a ⊕ 0f ⊖ b) (lt a b) (signed_is a b f g u)
 
--- ---- a point inside, by what is below what
-
-le_zero : (s : Bool) (m : ℕ) (e : ℤ) → le 0f (fin s m e) ≡ not (lt (fin s m e) 0f)
-unfolding le eq of_bits
-le_zero false zero e = rw (above_zero false 0 e, below_zero false 0 e, zero-mul (up e), zero-mul (down e)) refl
-le_zero false (suc m) e = rw (above_zero false (suc m) e, below_zero false (suc m) e, lt-ltb 0 (suc m) (some m)) refl
-le_zero true zero e = rw (below_zero true 0 e, zero-mul (up e), zero-mul (down e)) refl
-le_zero true (suc m) e = rw (below_zero true (suc m) e, zero-mul (down e), unlike_zero (suc m * up e * 1) (mul-pos (mul-pos (some m) (up_pos e)) (lit< tt)), lt-ltb 0 (suc m) (some m)) refl
-  where
-    unlike_zero : (n : ℕ) → 0 < n → eqb 0 n ≡ false
-    unlike_zero zero l = absurd (lt_irrefl 0 l)
-    unlike_zero (suc n) l = eqb-zero-suc n
-
-and_true : (a : Bool) → (a && true) ≡ a
-and_true true = refl
-and_true false = refl
-
-and_false : (a : Bool) → (a && false) ≡ false
-and_false true = refl
-and_false false = refl
-
--- a NaN is not below 0, and not below r either
-from_zero : (v r : Float) → (not (lt v 0f) && lt v r) ≡ (le 0f v && lt v r)
-unfolding le lt eq of_bits
-from_zero nan r = refl
-from_zero (inf true) r = refl
-from_zero (inf false) r = refl
-from_zero (fin s m e) r = ap (λ (b : Bool). b && lt (fin s m e) r) (sym (le_zero s m e))
-
-pub inside_told : (w h : ℕ) (sx sy : Float) → (not (lt sx 0f) && not (lt sy 0f) && lt sx (f32 (w - 1)) && lt sy (f32 (h - 1))) ≡ inside w h sx sy
-unfolding inside
-inside_told w h sx sy = four (not (lt sx 0f)) (not (lt sy 0f)) (lt sx (f32 (w - 1))) (lt sy (f32 (h - 1))) (le 0f sx) (le 0f sy) (from_zero sx (f32 (w - 1))) (from_zero sy (f32 (h - 1)))
-  where
-    four : (a b c d a' b' : Bool) → (a && c) ≡ (a' && c) → (b && d) ≡ (b' && d) → (a && b && c && d) ≡ (a' && b' && c && d)
-    four a b true true a' b' p q = rw (sym (and_true a) ∙ p ∙ and_true a', sym (and_true b) ∙ q ∙ and_true b') refl
-    four a b true false a' b' p q = and_false (a && b && true) ∙ sym (and_false (a' && b' && true))
-    four a b false d a' b' p q = ap (λ (z : Bool). z && d) (and_false (a && b) ∙ sym (and_false (a' && b')))
-
--- ---- the points of a map with small entries are finite
-
-module _ (map : Map) (s : Small map) where
-  times : (v : Float) (x : ℕ) → x ≤ 4096 → Within v (2 ^ 80) 1 → Within (v ⊗ f32 x) (2 ^ 92) 1
-  times v x X h =
-      mul_within binary32 v (f32 x) (2 ^ 80) 1 4096 1 (2 ^ 92) 1 (lit< tt) (lit< tt) (rep_pow 92 (lit≤ tt)) (lit≤ tt) h
-      (within_more (f32 x) x 1 4096 1 (lit< tt) (value_within (f32 x) false x 1 (whole_is x (omega arith))) (omega arith))
-
-  point : (u v t : Float) (x y : ℕ) → x ≤ 4096 → y ≤ 4096 → Within u (2 ^ 80) 1 → Within v (2 ^ 80) 1 → Within t (2 ^ 80) 1 → T (finite (u ⊗ f32 x ⊕ v ⊗ f32 y ⊕ t))
-  point u v t x y X Y hu hv ht =
-      let two = add_within binary32 (u ⊗ f32 x) (v ⊗ f32 y) (2 ^ 92) (2 ^ 92) 1 (rep_up 2 92 (lit≤ tt) (lit≤ tt)) (times u x X hu) (times v y Y hv) in
-      within_finite (u ⊗ f32 x ⊕ v ⊗ f32 y ⊕ t) (2 ^ 94) 1
-      (add_within binary32 (u ⊗ f32 x ⊕ v ⊗ f32 y) t (2 ^ 93) (2 ^ 93) 1 (rep_up 2 93 (lit≤ tt) (lit≤ tt)) two (within_more t (2 ^ 80) 1 (2 ^ 93) 1 (lit< tt) ht (lit≤ tt)))
-
-  pub finite_x : (x y : ℕ) → x ≤ 4096 → y ≤ 4096 → T (finite (sx_of map x y))
-  unfolding sx_of
-  finite_x x y X Y = point map.m00 map.m01 map.m02 x y X Y s.m00_small s.m01_small s.m02_small
-
-  pub finite_y : (x y : ℕ) → x ≤ 4096 → y ≤ 4096 → T (finite (sy_of map x y))
-  unfolding sy_of
-  finite_y x y X Y = point map.m10 map.m11 map.m12 x y X Y s.m10_small s.m11_small s.m12_small
-
--- an entry that passes the two tests
-pub small_is : (v : Float) → T (le v (of_bits binary32 0x6780_0000)) → T (le (neg (of_bits binary32 0x6780_0000)) v) → Within v (2 ^ 80) 1
-unfolding of_bits
-small_is v h k = within_of_le v (of_bits binary32 0x6780_0000) (2 ^ 80) 1 (lit< tt) (refl, refl) h k
-
--- ---- a whole number by its bits
-
-pub exactly_is : (n : ℕ) → n ≤ 4096 → of_bits binary32 (0x4b00_0000 + n) ⊖ of_bits binary32 0x4b00_0000 ≡ f32 n
-exactly_is n N =
-    let b = 0x4b00_0000 + n in
-    let k = 8388608 + n in
-    let low : 8388608 ≤ b = omega arith in
-    let digits : b % 8388608 ≡ n = omega arith in
-    let field : b / 8388608 - 1 ≡ 149 = omega arith in
-    let units : units_at b ≡ k * 2 ^ 149 = units_normal b low ∙ rw (digits, field) refl in
-    let is : of_bits binary32 b ≡ f32 k =
-    value_unique binary32 (of_bits binary32 b) (f32 k) false (k * 2 ^ 149) (2 ^ 149) (lit< tt) (of_bits-fits binary32 b) (of_int-fits binary32 (pos k))
-    (subst (λ (u : ℕ). HasValue (of_bits binary32 b) false u (2 ^ 149)) units (bits_value b (omega arith))) (value_over (f32 k) false k (2 ^ 149) (whole_is k (omega arith))) in
-    let big : of_bits binary32 0x4b00_0000 ≡ f32 8388608 = unfold of_bits of_int round in refl in
-    let less : k - 8388608 ≡ n = omega arith in
-    rw (is, big) (sub_whole k 8388608 (omega arith) (omega arith) ∙ ap f32 less)
-
 -- ---- numbers with no sign
 
 unsigned_of : (x : Float) → Signed false x → T (finite x) → Unsigned x
@@ -208,8 +123,8 @@ value_unsigned nan a c h = h
 value_unsigned (inf t) a c h = h
 value_unsigned (fin t m e) a c h = h.0
 
-pub whole_unsigned : (n : ℕ) → n ≤ 4096 → Unsigned (f32 n)
-whole_unsigned n N = value_unsigned (f32 n) n 1 (whole_is n (omega arith))
+pub whole_unsigned : (n : ℕ) → n ≤ 2 ^ 24 → Unsigned (f32 n)
+whole_unsigned n N = value_unsigned (f32 n) n 1 (whole_is n N)
 
 pub up_to_finite : (x : Float) (a c : ℕ) → UpTo x a c → T (finite x)
 up_to_finite nan a c h = h
@@ -218,13 +133,6 @@ up_to_finite (fin true m e) a c h = tt
 up_to_finite (fin false m e) a c h = tt
 
 -- x with 2 ^ 23 added and taken off again
-abbrev big : Float
-big = of_bits binary32 0x4b00_0000
-
-add_big : (m : ℕ) (e : ℤ) → fin false m e ⊕ big ≡ round binary32 false (m * up e + 8388608 * down e) (down e)
-unfolding add sum of_bits
-add_big m e = rw (mul-one (m * up e), mul-one (down e))
-
 less_big : (y : Float) → Signed false y → Within y 12582912 1 → AtLeast y 8388608 1 → Unsigned (y ⊖ big)
 less_big nan s w l = absurd s
 less_big (inf t) s w l = absurd w
