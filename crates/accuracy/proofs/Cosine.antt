@@ -2,12 +2,12 @@
 use mathlib.Core.Path.{◌∙◌, subst}
 use mathlib.Core.Bool.{true, false}
 use mathlib.Core.Logic.{◌⊎◌, inl, inr}
-use Prim.Native.Nat.{ℕ, ◌+◌, ◌-◌, ◌*◌, ◌^◌, ◌≤◌, ◌<◌}
+use Prim.Native.Nat.{ℕ, ◌+◌, ◌*◌, ◌^◌, ◌≤◌, ◌<◌}
 use native.Mathlib.Nat.{le_of_lt, mul-le-mul, div-le_of_le-mul, sub-le, sub-add_cancel}
 use native.Mathlib.Omega.{arith}
 use lib.Dec.{lit<, lit≤}
 use lib.IntN.{sub_ℕ}
-use lib.Ieee.{nan, inf, fin, binary32, up, down, round}
+use lib.Ieee.{nan, inf, fin, up, down}
 use Rattle.series.specs.Recurrence.{quotient_of, steps_of}
 use Rattle.series.specs.Series.{divisor_of, z_of, over30_of, cos_of}
 use Rattle.series.specs.declared.Series.TheVariants.{Cosine}

@@ -118,7 +118,16 @@ fn by_run(
     let i = spots[from] as usize;
     blend_row(part, across, down, w, i, 3 * n + at + from, from, len);
     blend_row(part, across, down, w, n + i, 4 * n + at + from, from, len);
-    blend_row(part, across, down, w, 2 * n + i, 5 * n + at + from, from, len);
+    blend_row(
+        part,
+        across,
+        down,
+        w,
+        2 * n + i,
+        5 * n + at + from,
+        from,
+        len,
+    );
 }
 
 // The same pixels, where a break lies somewhere among them: sixteen at a time, as a run or each by its own place.

@@ -52,6 +52,7 @@ fn read_on<R: Read>(input: &mut R, n: usize, buf: &mut [u8]) -> Result<Option<us
 pub fn fill<R: Read>(input: &mut R, buf: &mut [u8]) -> Result<usize, Failed>
     ensures { Gathered (length buf.old) (Over result) × (count_of result ≤ length buf.old) }
 {
+    // By hand: a turn goes as far as a read, so a range has nothing to count.
     let mut count = 0;
     while count < buf.len() {
         let Some(more) = read_on(input, count, buf)? else {

@@ -15,6 +15,7 @@ use std::fmt;
 // What stands before the pixels, which begin at index at.
 #[derive(Clone, Copy)]
 pub struct Header {
+    // P2, and not P5: there are these two, and the definitions take a Bool.
     pub is_plain: bool,
     pub w: usize,
     pub h: usize,

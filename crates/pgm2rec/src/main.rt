@@ -32,10 +32,11 @@ use std::{fs, io, str};
 #[derive(Clone, Copy)]
 struct Run {
     options: Options,
-    // The settings are still to be written.
+    // The settings are still to be written. They are there, written or not: no Option.
     is_new: bool,
     // The index of the next word.
     next: usize,
+    // A flag, as `Walked` has it: what stands beside it is read after the run, too.
     is_going: bool,
 }
 

@@ -155,7 +155,7 @@ pub fn matrix_of(pose: Option<Posed>) -> Matrix3
     }
 }
 
-// Document 01's number of an answer: 0 for a pose.
+// Document 01's number of an answer, for what is printed and for C: 0 for a pose.
 pub fn number_of(answer: Answer) -> u8
     ensures { result ≡ number_of answer }
 {

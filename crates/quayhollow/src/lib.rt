@@ -111,7 +111,7 @@ pub fn quayhollow_align(
     boundary::code(o)
 }
 
-// The matrix of an answer that is handed in, row after row.
+// The matrix of an answer that is handed in, row after row. The answer comes by its number, as C has it.
 pub fn quayhollow_matrix(number: u8, theta: f32, tx: f32, ty: f32, out: &mut [f32])
     ensures { out.new ≡ fronted (entries_of (matrix_of (handed_of number theta tx ty))) out.old }
 {
@@ -121,7 +121,7 @@ pub fn quayhollow_matrix(number: u8, theta: f32, tx: f32, ty: f32, out: &mut [f3
     );
 }
 
-// The numbers for the pins of an answer that is handed in, to a frame of w by h pixels.
+// The numbers for the pins of an answer that is handed in by its number, as C has it, to a frame of w by h pixels.
 pub fn quayhollow_pins(
     number: u8,
     theta: f32,

@@ -99,7 +99,7 @@ fn read_frame(s: &[u8], body: usize) -> Record
     }
 }
 
-// A record by its kind.
+// A record by its kind: a number of the format, of which any may come.
 #[tactic(auto, unfolding(crate::specs::Reading::body_of, lists::specs::Marked::pick))]
 fn read_body(s: &[u8], kind: u16, body: usize) -> Record
     ensures { result ≡ body_of s.now kind body }

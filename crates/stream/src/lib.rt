@@ -22,7 +22,7 @@ use settings::EccConfig;
 pub struct State {
     // bytes of a body that are still to be read over
     pub rest: usize,
-    // that body is a frame's, which is answered when it is over
+    // that body is a frame's, which is answered when it is over; a flag, as `past` in crate whole_log has it
     pub large: bool,
     // frames answered
     pub frames: u64,

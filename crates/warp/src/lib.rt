@@ -16,7 +16,6 @@ ghost use Rattle.warp.specs.Warp.{Warped};
 ghost use Rattle.blends.specs.Reads.{three_rows};
 ghost use Rattle.warp.specs.Rows.{read_of, Reach, Holding, WarpedThrough};
 
-
 // What the warp has marked: how many pixels, and the first and the last row that hold one.
 #[derive(Clone, Copy)]
 pub struct Found {
@@ -69,7 +68,17 @@ fn reads(
     while x < len {
         let r = bits::next_stretch(marks, at + x, at + len);
         clear_stretch(part, n, at + x, r.from);
-        blends::reads_stretch(part, &scratch.spots, &scratch.across, &scratch.down, w, n, at, r.from - at, r.to - at);
+        blends::reads_stretch(
+            part,
+            &scratch.spots,
+            &scratch.across,
+            &scratch.down,
+            w,
+            n,
+            at,
+            r.from - at,
+            r.to - at,
+        );
         x = r.to - at;
     }
 }
@@ -91,7 +100,18 @@ fn warp_piece(
     ensures { WarpedThrough map w h (y * w + x) len part.old marks.old part.new marks.new }
 {
     let at = y * w + x;
-    places::places_row(&mut scratch.spots, &mut scratch.across, &mut scratch.down, &mut scratch.flags, map, w, h, x, y, len);
+    places::places_row(
+        &mut scratch.spots,
+        &mut scratch.across,
+        &mut scratch.down,
+        &mut scratch.flags,
+        map,
+        w,
+        h,
+        x,
+        y,
+        len,
+    );
     bits::pack(&scratch.flags, marks, at, len);
     reads(part, marks, scratch, w, w * h, at, len);
 }

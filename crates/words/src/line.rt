@@ -7,6 +7,7 @@ ghost use Rattle.words.specs.Reading.{digit_of, no_word, closed_of, closed_in, l
 pub struct Line {
     pub count: usize,
     pub open: Option<u64>,
+    // No value stands beside it: what is passed over is not kept.
     pub skip: bool,
 }
 
