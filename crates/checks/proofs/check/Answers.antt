@@ -4,7 +4,7 @@ use borrow.Author.Tests.{lt-ltb, le-ltb, eq-eqb, ne_eqb}
 use Rattle.lists.proofs.Cases.{pick_true, pick_false}
 use Rattle.lists.proofs.Every.{sides_fit}
 use Rattle.refusals.specs.Refusals.{checked}
-use Rattle.refusals.proofs.Numbered.{fails, passes}
+use Rattle.refusals.proofs.Numbered.{fails}
 use Rattle.checks.specs.Checks.{check_of}
 use Rattle.checks.proofs.check.Goals as goal
 

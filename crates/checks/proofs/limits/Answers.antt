@@ -3,7 +3,7 @@ use mathlib.Core.Path.{sym, ◌∙◌, ap}
 use borrow.Author.Tests.{lt-ltb, le-ltb, eq-eqb, ne_eqb}
 use Rattle.lists.proofs.Cases.{pick_true, pick_false}
 use Rattle.refusals.specs.Refusals.{checked}
-use Rattle.refusals.proofs.Numbered.{fails, passes}
+use Rattle.refusals.proofs.Numbered.{fails}
 use Rattle.checks.specs.Checks.{limits_of}
 use Rattle.checks.proofs.limits.Goals as goal
 

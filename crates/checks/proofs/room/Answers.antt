@@ -1,11 +1,10 @@
 -- `checks::room` refuses work below 12n floats and marks below the words of n. Assumes nothing.
 use Prim.Native.Nat.{ℕ}
-use mathlib.Core.Path.{sym, ◌∙◌, ap}
+use mathlib.Core.Path.{sym, ◌∙◌}
 use native.Mathlib.Omega.{arith}
 use borrow.Author.Tests.{lt-ltb, le-ltb}
 use Rattle.lists.specs.Marked.{words_for}
 use Rattle.lists.proofs.Cases.{pick_true, pick_false}
-use Rattle.refusals.specs.Refusals.{checked}
 use Rattle.refusals.proofs.Numbered.{fails, passes}
 use Rattle.checks.specs.Checks.{room_of}
 use Rattle.checks.proofs.room.Goals as goal

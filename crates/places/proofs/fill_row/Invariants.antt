@@ -1,5 +1,4 @@
 -- `places::fill_row` meets its contract. Assumes nothing.
-use Prim.Native.Nat.{◌-◌}
 use mathlib.Core.Path.{◌≡◌}
 use lib.ListN.{length}
 use Rattle.places.proofs.Places.{PlacesHeld}
