@@ -29,7 +29,6 @@ use Rattle.stats.proofs.Bounds.{tmp_norm_lem, img_norm_lem, corr_within}
 use Rattle.verdict.specs.Verdict.{tiny, rho_of, verdict_of}
 use Rattle.verdict.specs.Finite.{RhoIsFinite, TooLarge}
 use Rattle.verdict.specs.declared.Verdict.{Verdict}
-use Rattle.verdict.specs.declared.Verdict.TheVariants.{Settled, Unsettled}
 use Rattle.refusals.specs.declared.Refusal.TheVariants.{RhoNotFinite, Flat}
 use Rattle.refusals.specs.declared.Refusal.{Refusal}
 use Rattle.refusals.specs.Refusals.{number}
