@@ -1,25 +1,19 @@
 -- How a pass ends, by what the inverse and lambda come to. Assumes nothing.
 use Rattle.std.specs.Prelude.{None, Some, Option, Err}
-use Prim.Native.Nat.{ℕ, ◌*◌, ◌≤◌}
+use Prim.Native.Nat.{ℕ}
 use mathlib.Core.Path.{◌≡◌, refl, sym, ap, ap₂, ◌∙◌}
 use mathlib.Core.Bool.{Bool, true, false}
 use mathlib.Core.List.{List}
-use native.Mathlib.Omega.{arith}
-use lib.ListN.{length}
 use lib.Ieee.{Float, le}
 use lib.Ieee.Scale.{finite}
-use Rattle.lists.specs.Lists.{image, set_image}
 use Rattle.lists.specs.Marked.{pick}
-use Rattle.lists.proofs.Cases.{pick_true, pick_false}
-use Rattle.lists.proofs.Images.{image_set, image_set_other}
 use Rattle.floats.specs.F32.{◌⊖◌, ◌⊗◌, ◌⊘◌, 0f}
 use Rattle.stats.specs.declared.Stats.{Stats}
 use Rattle.inverse.specs.Inverse.{inverse_of, times_of, dot_of}
 use Rattle.inverse.specs.declared.Vector3.{Vector3}
 use Rattle.inverse.specs.declared.Matrix3.{Matrix3}
 use Rattle.pose.specs.declared.Pose.{Pose}
-use Rattle.sums.specs.Sums.{steep_of, proj_of, hessian_of, error_of}
-use Rattle.sums.proofs.Rows.{length_steep}
+use Rattle.sums.specs.Sums.{proj_of, hessian_of, error_of}
 use Rattle.solve.specs.Lambda.{lambda_of}
 use Rattle.solve.specs.Solve.{Ended, moved_of, update_of, solve_of}
 use Rattle.refusals.specs.declared.Refusal.TheVariants.{NoStep, NoInverse}

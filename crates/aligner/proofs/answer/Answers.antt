@@ -1,8 +1,8 @@
 -- `aligner::answer` meets its contract: 11 and 12 leave work and marks as they were; else the answer is the alignment's. Assumes nothing.
 use Rattle.std.specs.Prelude.{Err}
-use Prim.Native.Nat.{ℕ, ◌*◌}
+use Prim.Native.Nat.{◌*◌}
 use mathlib.Core.Path.{sym, ap, ◌∙◌}
-use borrow.Author.Tests.{eq-eqb, ne_eqb}
+use borrow.Author.Tests.{eq-eqb}
 use lib.ListN.{length}
 use lib.Seq.{length-take-le}
 use Rattle.lists.proofs.Cases.{pick_true, pick_false}

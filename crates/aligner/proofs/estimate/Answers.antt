@@ -1,9 +1,8 @@
 -- `aligner::estimate` meets its contract: the first checks leave all as it was; else the frame is answered, then kept. Assumes nothing.
 use Rattle.std.specs.Prelude.{Err, Some}
-use Prim.Native.Nat.{ℕ}
 use mathlib.Core.Path.{sym, ap, ◌∙◌}
 use native.Mathlib.Omega.{arith}
-use borrow.Author.Tests.{eq-eqb, ne_eqb}
+use borrow.Author.Tests.{eq-eqb}
 use lib.ListN.{length}
 use Rattle.lists.proofs.Cases.{pick_true, pick_false}
 use Rattle.refusals.specs.declared.Refusal.{Refusal}

@@ -2,7 +2,7 @@
 use Rattle.std.specs.Prelude.{Err}
 use Prim.Native.Nat.{ℕ, ◌*◌}
 use mathlib.Core.Path.{sym, ap, ◌∙◌}
-use borrow.Author.Tests.{eq-eqb, ne_eqb}
+use borrow.Author.Tests.{eq-eqb}
 use Rattle.lists.specs.Lists.{tab, put}
 use Rattle.lists.specs.Marked.{words_for}
 use Rattle.lists.proofs.Cases.{pick_true, pick_false}
