@@ -1,6 +1,6 @@
 -- What crosses the boundary to C and Rust: an answer as a number, its pose, its matrix and its pins in lent slices, the settings and the lengths as numbers.
 -- Definitions only.
-use Rattle.std.specs.Prelude.{ℕ, ◌+◌, ◌*◌, List, [], ◌∷◌, ltb, eqb, ℤ, length, Float, None, Some, Option}
+use Rattle.std.specs.Prelude.{ℕ, ◌+◌, ◌*◌, List, [], ◌∷◌, ltb, eqb, ℤ, length, Float, Ok, Err, None, Some}
 use Rattle.lists.specs.Lists.{put}
 use Rattle.lists.specs.Marked.{pick}
 use Rattle.floats.specs.F32.{0f}
@@ -8,7 +8,7 @@ use Rattle.settings.specs.Sides.{resized_of}
 use Rattle.settings.specs.declared.EccConfig.{EccConfig}
 use Rattle.inverse.specs.declared.Matrix3.{Matrix3}
 use Rattle.pose.specs.Pose.{Answer, told_of, number_of}
-use Rattle.pose.specs.declared.Posed.{Posed}
+use Rattle.refusals.specs.declared.Refusal.TheVariants.{Handed}
 use Rattle.pose.specs.declared.Outcome.{Outcome}
 use Rattle.driver.specs.declared.Pins.{Pins}
 
@@ -34,9 +34,9 @@ code_of o = number_of o.answer + 256 * o.passes
 unfoldable pub pose_of : Answer → List Float
 pose_of a = let t = told_of a in t.theta ∷ t.tx ∷ t.ty ∷ t.rho ∷ []
 
--- the pose of an answer handed in: 0 is a pose, whose rho plays no part; any other number is a refusal
-unfoldable pub handed_of : ℕ → Float → Float → Float → Option Posed
-handed_of number theta tx ty = pick (eqb number 0) (Some (record { theta = theta; tx = tx; ty = ty; rho = 0f })) None
+-- an answer handed in: 0 is a pose, whose rho plays no part; any other number is a refusal
+unfoldable pub handed_of : ℕ → Float → Float → Float → Answer
+handed_of number theta tx ty = pick (eqb number 0) (Ok (record { theta = theta; tx = tx; ty = ty; rho = 0f })) (Err (Handed number))
 
 -- dx, dy, turn
 unfoldable pub three_of : Pins → List ℤ

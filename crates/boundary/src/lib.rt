@@ -11,6 +11,7 @@ ghost use Rattle.boundary.specs.Boundary.{config_of, pixel_count_of, fronted, co
 use driver::Pins;
 use inverse::Matrix3;
 use pose::{Answer, Outcome, Posed};
+use refusals::Refusal;
 use settings::EccConfig;
 
 pub fn config(eps: f32, max_iter: usize, filter: usize, edge: usize) -> EccConfig
@@ -109,17 +110,17 @@ pub fn put_pins(p: Pins, out: &mut [i16])
     out[2] = turn;
 }
 
-// The pose of an answer that is handed in by its number and its pose. Any number may come, also one that no refusal has.
-pub fn handed(number: u8, theta: f32, tx: f32, ty: f32) -> Option<Posed>
+// An answer handed in by its number and its pose. Any number may come, also one that the table lacks.
+pub fn handed(number: u8, theta: f32, tx: f32, ty: f32) -> Answer
     ensures { result ≡ handed_of number theta tx ty }
 {
     if number == 0 {
-        return Some(Posed {
+        return Ok(Posed {
             theta,
             tx,
             ty,
             rho: 0.0,
         });
     }
-    None
+    Err(Refusal::Handed(number))
 }

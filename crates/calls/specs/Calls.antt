@@ -15,7 +15,6 @@ use Rattle.pose.specs.declared.Outcome.{Outcome}
 use Rattle.alignment.specs.Aligned.{aligned_of, work_after, marks_after}
 use Rattle.words.specs.Words.{stored_at, float_of, bytes_at, all_below, floats_agree}
 use Rattle.inverse.specs.Inverse.{entries_of}
-use Rattle.std.specs.Result.{result_ok}
 use Rattle.calls.specs.declared.Lengths.{Lengths}
 
 -- the settings, from the word 5 on; an edge stands behind a word that is not 0
@@ -46,7 +45,7 @@ answer_agrees words at (Ok p) = eqb (stored_at words at) 0 && floats_agree words
 
 -- number, passes, pose and matrix
 unfoldable pub outcome_agrees : List ℕ → ℕ → Outcome → Bool
-outcome_agrees words at o = eqb o.passes (stored_at words (at + 1)) && floats_agree words (at + 6) (entries_of (matrix_of (result_ok o.answer))) && answer_agrees words at o.answer
+outcome_agrees words at o = eqb o.passes (stored_at words (at + 1)) && floats_agree words (at + 6) (entries_of (matrix_of o.answer)) && answer_agrees words at o.answer
 
 -- a call by k floats and m words of marks, its answer from the word `at` on
 unfoldable pub called_agrees : List ℕ → ℕ → List ℕ → List ℕ → ℕ → ℕ → Bool

@@ -1,9 +1,10 @@
 -- When a vector of the driver numbers agrees with the definitions, and the table of both kinds. Definitions only.
 -- The words: the kind; the answer's number, theta, tx, ty; the sides w, h; dx, dy and turn, each by 1 if it is below 0, else 0, and by its distance to 0.
-use Rattle.std.specs.Prelude.{ℕ, ◌+◌, ◌%◌, Bool, ◌&&◌, List, [], ◌∷◌, eqb, ℤ, pos, negsuc, Option, Some, None}
+use Rattle.std.specs.Prelude.{ℕ, ◌+◌, ◌%◌, Bool, ◌&&◌, List, [], ◌∷◌, eqb, ℤ, pos, negsuc, Ok, Err}
 use Rattle.lists.specs.Marked.{pick}
 use Rattle.floats.specs.F32.{0f}
-use Rattle.pose.specs.declared.Posed.{Posed}
+use Rattle.pose.specs.Pose.{Answer}
+use Rattle.refusals.specs.declared.Refusal.TheVariants.{Handed}
 use Rattle.driver.specs.Pins.{pins_of}
 use Rattle.words.specs.Words.{stored_at, float_of}
 use Rattle.vectors.specs.Kinds.{of_kind}
@@ -13,11 +14,11 @@ unfoldable pub pin_agrees : ℤ → ℕ → ℕ → Bool
 pin_agrees (pos n) below size = eqb below 0 && eqb n size
 pin_agrees (negsuc n) below size = eqb below 1 && eqb (n + 1) size
 
-unfoldable pub answer_at : List ℕ → Option Posed
+unfoldable pub answer_at : List ℕ → Answer
 answer_at words =
     pick (eqb (stored_at words 1) 0)
-    (Some (record { theta = float_of (stored_at words 2); tx = float_of (stored_at words 3); ty = float_of (stored_at words 4); rho = 0f }))
-    None
+    (Ok (record { theta = float_of (stored_at words 2); tx = float_of (stored_at words 3); ty = float_of (stored_at words 4); rho = 0f }))
+    (Err (Handed (stored_at words 1 % 256)))
 
 unfoldable pub pins_agree : List ℕ → Bool
 pins_agree words =

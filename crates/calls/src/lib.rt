@@ -126,7 +126,7 @@ fn outcome_agrees(words: &[u64], at: usize, out: Outcome) -> bool
     ensures { result ≡ outcome_agrees words.now at out }
 {
     let a = out.answer;
-    let m = pose::matrix_of(a.ok());
+    let m = pose::matrix_of(a);
     let entries = [
         m.m00, m.m01, m.m02, m.m10, m.m11, m.m12, m.m20, m.m21, m.m22,
     ];
@@ -234,21 +234,21 @@ fn pin_agrees(v: i16, below: u64, size: u64) -> bool
     below == u64::from(v < 0) && text::size(v) == size
 }
 
-// The pose of the answer with a number, theta, tx, ty: none where the number is not 0.
+// The answer's number, theta, tx, ty.
 #[tactic(auto, unfolding(crate::specs::Pins::answer_at, lists::specs::Marked::pick))]
-fn answer_at(words: &[u64]) -> Option<Posed>
+fn answer_at(words: &[u64]) -> Answer
     ensures { result ≡ answer_at words.now }
 {
     let number = word(words, 1);
     if number == 0 {
-        return Some(Posed {
+        return Ok(Posed {
             theta: float(word(words, 2)),
             tx: float(word(words, 3)),
             ty: float(word(words, 4)),
             rho: 0.0,
         });
     }
-    None
+    Err(Refusal::Handed((number % 256) as u8))
 }
 
 // The answer, the sides; dx, dy and turn.

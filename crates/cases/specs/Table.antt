@@ -17,7 +17,6 @@ use Rattle.pose.specs.declared.Outcome.{Outcome}
 use Rattle.places.specs.Point.{marks_of}
 use Rattle.alignment.specs.Aligned.{aligned_of}
 use Rattle.driver.specs.Pins.{pins_of}
-use Rattle.std.specs.Result.{result_ok}
 
 -- an image by the bit patterns of its numbers
 abbrev pub patterns : List Float → List ℕ
@@ -64,7 +63,7 @@ pub record Starred : Type 0 where
   pub even_filter : alike (7 ∷ []) 1 1 (filter 2) ≡ record { passes = 0; answer = Err InvalidInput }
   -- 3: max_iter 0 on a 1x1 frame: a pose, all zero, rho -1, no pass; the first row of that answer's matrix has -0.0 second
   pub no_pass : alike (7 ∷ []) 1 1 (passes 0) ≡ record { passes = 0; answer = Ok (record { theta = 0f; tx = 0f; ty = 0f; rho = neg 1f }) }
-  pub no_pass_row : to_bits binary32 (matrix_of (result_ok (alike (7 ∷ []) 1 1 (passes 0)).answer)).m01 ≡ 0x8000_0000
+  pub no_pass_row : to_bits binary32 (matrix_of (alike (7 ∷ []) 1 1 (passes 0)).answer).m01 ≡ 0x8000_0000
   -- 4: 700x350 at edge 350 becomes 350x175; 400x4 becomes 350x8; 400x12 becomes 350x11
   pub sides_halved : resized_of 350 700 350 ≡ record { w = 350; h = 175 }
   pub side_at_least_8 : resized_of 350 400 4 ≡ record { w = 350; h = 8 }

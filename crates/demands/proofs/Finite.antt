@@ -26,9 +26,7 @@ use Rattle.prepare.specs.Prepared.{prepared_of}
 use Rattle.checks.specs.Checks.{size_of, room_of, limits_of, check_of}
 use Rattle.checks.proofs.Past.{past}
 use Rattle.refusals.specs.Refusals.{number, refusal_of}
-use Rattle.refusals.specs.declared.Refusal.{Refusal}
 use Rattle.pose.specs.Pose.{Answer, number_of, unscaled_of, told_of}
-use Rattle.pose.specs.declared.Posed.{Posed}
 use Rattle.pose.specs.declared.Pose.{Pose}
 use Rattle.pose.specs.declared.Outcome.{Outcome}
 use Rattle.solve.specs.Solve.{Ended}

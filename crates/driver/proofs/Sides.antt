@@ -1,10 +1,10 @@
 -- What is known of sides that a frame has. Assumes nothing.
-use Rattle.std.specs.Prelude.{Option, Some}
+use Rattle.std.specs.Prelude.{Ok}
 use Rattle.std.proofs.Common.{◌≡◌, ℕ, ◌-◌, ◌≤◌, Bool, true, false, ◌&&◌, ltb, leb, sym, refl, true≢false, arith, ltb-true, leb-true}
-use lib.Ieee.{Float}
 use Rattle.lists.specs.Premises.{is_side}
 use Rattle.lists.proofs.Cases.{pick_true}
 use Rattle.pose.specs.declared.Posed.{Posed}
+use Rattle.pose.specs.Pose.{Answer}
 use Rattle.driver.specs.Pins.{posed_of, pins_of}
 
 both : (a b : Bool) → (a && b) ≡ true → (a ≡ true) × (b ≡ true)
@@ -19,6 +19,6 @@ side_bounds n e = let b = both (leb n 4096) (ltb 0 n) e in (ltb-true 0 n b.1, le
     less : (n : ℕ) → n ≤ 4096 → n - 1 ≤ 4095
     less n h = omega arith
 
-pub of_pose : (a : Option Posed) (p : Posed) (w h : ℕ) → a ≡ Some p → is_side w ≡ true → is_side h ≡ true → pins_of a w h ≡ posed_of p.theta p.tx p.ty (w - 1) (h - 1)
+pub of_pose : (a : Answer) (p : Posed) (w h : ℕ) → a ≡ Ok p → is_side w ≡ true → is_side h ≡ true → pins_of a w h ≡ posed_of p.theta p.tx p.ty (w - 1) (h - 1)
 unfolding pins_of
 of_pose a p w h e x y = rw e (pick_true _ _ _ (rw (x, y)))

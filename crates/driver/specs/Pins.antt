@@ -1,13 +1,12 @@
 -- The driver numbers: dx and dy by document 02, request 2, turn by document 01. Exact, to the nearest whole number, half away from zero, held to
 -- -32768..32767. Definitions only. All is in whole numbers: a finite value is m * up e / down e with a sign, and nothing is rounded but the last quotient.
-use Rattle.std.specs.Prelude.{ℕ, ◌-◌, ◌*◌, ◌&&◌, ℤ, pos, Float, Option, Some, None}
+use Rattle.std.specs.Prelude.{ℕ, ◌-◌, ◌*◌, ◌&&◌, ℤ, pos, Float, Ok, Err}
 use Rattle.std.specs.Float.{nan, inf, fin}
 use Rattle.std.specs.Float.Ieee.{up, down}
 use Rattle.std.specs.Float.Ieee.Scale.{finite}
 use Rattle.lists.specs.Marked.{pick}
 use Rattle.lists.specs.Premises.{is_side}
-use Rattle.pose.specs.Pose.{posed_matrix}
-use Rattle.pose.specs.declared.Posed.{Posed}
+use Rattle.pose.specs.Pose.{Answer, posed_matrix}
 use Rattle.middle.specs.Held.{nearest_capped}
 use Rattle.middle.specs.Motion.{motion_of}
 use Rattle.driver.specs.declared.Pins.{Pins}
@@ -35,8 +34,8 @@ unfoldable pub posed_of : Float → Float → Float → ℕ → ℕ → Pins
 unfolding finite_of
 posed_of theta tx ty a b = pick (finite theta && finite tx && finite ty) (finite_of theta tx ty a b) still_of
 
--- of an answer's pose, to a frame of w by h pixels, whose middle is ((w - 1)/2, (h - 1)/2): 0, 0, 0 where there is none and for sides that no frame has
-unfoldable pub pins_of : Option Posed → ℕ → ℕ → Pins
+-- of an answer to a frame of w by h pixels, whose middle is ((w - 1)/2, (h - 1)/2): 0, 0, 0 for a refusal and for sides that no frame has
+unfoldable pub pins_of : Answer → ℕ → ℕ → Pins
 unfolding is_side posed_of
-pins_of None w h = still_of
-pins_of (Some p) w h = pick (is_side w && is_side h) (posed_of p.theta p.tx p.ty (w - 1) (h - 1)) still_of
+pins_of (Err r) w h = still_of
+pins_of (Ok p) w h = pick (is_side w && is_side h) (posed_of p.theta p.tx p.ty (w - 1) (h - 1)) still_of

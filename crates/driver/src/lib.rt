@@ -1,6 +1,6 @@
 // The numbers for the pins: how far an answer moves the middle of the frame, in 1/256 pixel, and its turn in 1/8192 radian, as whole numbers.
 //
-// The pose of any answer and any sides may be handed in. No pose gives 0, 0, 0, and so does one with theta, tx or ty not finite, and a side of 0 or above 4,096.
+// Any answer and any sides may be handed in. A refusal gives 0, 0, 0, and so does a pose with theta, tx or ty not finite, and a side of 0 or above 4,096.
 #![tactic(auto)]
 
 ghost use Rattle.std.specs.Prelude.{◌≡◌, ◌≤◌, not, T, is_nan};
@@ -8,7 +8,7 @@ ghost use Rattle.std.specs.Float.Ieee.Scale.{finite};
 ghost use Rattle.lists.specs.Premises.{is_side};
 ghost use Rattle.driver.specs.Pins.{pin_of, still_of, finite_of, posed_of, pins_of};
 
-use pose::Posed;
+use pose::Answer;
 
 // By default 0, 0, 0: nothing moves.
 #[derive(Clone, Copy, Default)]
@@ -60,16 +60,16 @@ fn is_side(n: usize) -> bool
     (1..=4096).contains(&n)
 }
 
-// The numbers of any answer's pose, to a frame of w by h pixels.
+// The numbers of any answer, to a frame of w by h pixels.
 #[tactic(auto, unfolding(crate::specs::Pins::pins_of, lists::specs::Premises::is_side, lists::specs::Marked::pick))]
-pub fn pins_of(pose: Option<Posed>, w: usize, h: usize) -> Pins
-    ensures { result ≡ pins_of pose w h }
+pub fn pins_of(answer: Answer, w: usize, h: usize) -> Pins
+    ensures { result ≡ pins_of answer w h }
 {
     if !(is_side(w) && is_side(h)) {
         return Pins::default();
     }
-    match pose {
-        None => Pins::default(),
-        Some(p) => posed_pins(p.theta, p.tx, p.ty, (w - 1) as u64, (h - 1) as u64),
+    match answer {
+        Err(_) => Pins::default(),
+        Ok(p) => posed_pins(p.theta, p.tx, p.ty, (w - 1) as u64, (h - 1) as u64),
     }
 }

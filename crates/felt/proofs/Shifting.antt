@@ -1,5 +1,5 @@
 -- Where the turn does not move the middle, dx and dy are those of document 01. Assumes nothing.
-use Rattle.std.specs.Prelude.{Some}
+use Rattle.std.specs.Prelude.{Ok}
 use mathlib.Core.Path.{◌≡◌, refl, sym, ap, ◌∙◌}
 use mathlib.Core.Logic.{inl, inr}
 use mathlib.Core.Bool.{Bool, true, false}
@@ -107,7 +107,7 @@ none p q = zeros (share_of false p) (share_of false q) (share_of true p) (share_
 pub one_pixel : OnePixelAsBefore
 unfolding is_side
 one_pixel theta tx ty rho X Y P =
-    of_pose (Some (record { theta = theta; tx = tx; ty = ty; rho = rho })) (record { theta = theta; tx = tx; ty = ty; rho = rho }) 1 1 refl refl refl
+    of_pose (Ok (record { theta = theta; tx = tx; ty = ty; rho = rho })) (record { theta = theta; tx = tx; ty = ty; rho = rho }) 1 1 refl refl refl
     ∙ shifted theta tx ty 0 0 X Y P (none (cos_of theta) (neg (sin_of theta))) (none (cos_of theta) (sin_of theta))
 
 -- ---- a shift alone
@@ -143,7 +143,7 @@ even_negated false a b = cancels (2 ^ 149) a b
 pub shift_as_before : ShiftAsBefore
 shift_as_before minus tx ty rho w h X Y P W H =
     let theta = pick minus (neg 0f) 0f in
-    of_pose (Some (record { theta = theta; tx = tx; ty = ty; rho = rho })) (record { theta = theta; tx = tx; ty = ty; rho = rho }) w h refl W H
+    of_pose (Ok (record { theta = theta; tx = tx; ty = ty; rho = rho })) (record { theta = theta; tx = tx; ty = ty; rho = rho }) w h refl W H
     ∙ shifted theta tx ty (w - 1) (h - 1) X Y P
     (rw (cosine_one minus, sine_none minus) (even_negated minus (w - 1) (h - 1)))
     (rw (cosine_one minus, sine_none minus) (even minus (h - 1) (w - 1)))

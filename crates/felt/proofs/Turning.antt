@@ -1,5 +1,5 @@
 -- Who only turns the grip feels no push. Assumes nothing.
-use Rattle.std.specs.Prelude.{Some}
+use Rattle.std.specs.Prelude.{Ok}
 use mathlib.Core.Path.{◌≡◌, refl, ◌∙◌}
 use mathlib.Core.Bool.{true, false}
 use Prim.Native.Nat.{ℕ, ◌+◌, ◌-◌, ◌^◌, ◌≤◌}
@@ -91,8 +91,8 @@ module _ (theta rho : Float) (w h : ℕ) (P : is_pose theta 0f 0f ≡ true) (W :
   unfolding minus
   still = by_entries theta tx ty (w - 1) (h - 1) (pose_shifted theta 0f 0f P tx ty tx_finite ty_finite) ∙ rw (across, along)
 
-  in_place : pins_of (Some (record { theta = theta; tx = tx; ty = ty; rho = rho })) w h ≡ record { dx = pos 0; dy = pos 0; turn = pin_of 8192 theta }
-  in_place = of_pose (Some (record { theta = theta; tx = tx; ty = ty; rho = rho })) (record { theta = theta; tx = tx; ty = ty; rho = rho }) w h refl W H ∙ still
+  in_place : pins_of (Ok (record { theta = theta; tx = tx; ty = ty; rho = rho })) w h ≡ record { dx = pos 0; dy = pos 0; turn = pin_of 8192 theta }
+  in_place = of_pose (Ok (record { theta = theta; tx = tx; ty = ty; rho = rho })) (record { theta = theta; tx = tx; ty = ty; rho = rho }) w h refl W H ∙ still
 
 pub turn_in_place : TurnInPlace
 unfolding tx ty minus affine_matrix affine_from_theta_tx_ty

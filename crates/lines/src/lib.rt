@@ -24,7 +24,7 @@ pub fn line_of(frames: u64, outcome: Outcome, w: usize, h: usize) -> Line
     ensures { result ≡ line_of frames outcome w h }
 {
     let answer = outcome.answer;
-    let pins = driver::pins_of(answer.ok(), w, h);
+    let pins = driver::pins_of(answer, w, h);
     Line {
         position: frames + 1,
         number: pose::number_of(answer),

@@ -1,5 +1,5 @@
 -- The matrix of a pose and of an answer: document 000's affine_from_theta_tx_ty and identity3; the pose in original pixels. Definitions only.
-use Rattle.std.specs.Prelude.{ℕ, Bool, ◌&&◌, Float, Option, Some, None, Result, Ok, Err}
+use Rattle.std.specs.Prelude.{ℕ, Bool, ◌&&◌, Float, Result, Ok, Err}
 use Rattle.std.specs.Float.Ieee.{neg, le}
 use Rattle.std.specs.Float.Ieee.Scale.{finite}
 use Rattle.lists.specs.Marked.{pick}
@@ -46,11 +46,11 @@ affine_matrix theta tx ty =
 unfoldable pub posed_matrix : Float → Float → Float → Matrix3
 posed_matrix theta tx ty = pick (is_pose theta tx ty) (affine_matrix theta tx ty) identity3
 
--- the matrix of an answer's pose: identity3 where there is none
-unfoldable pub matrix_of : Option Posed → Matrix3
+-- the matrix of an answer: identity3 for a refusal
+unfoldable pub matrix_of : Answer → Matrix3
 unfolding identity3 posed_matrix
-matrix_of None = identity3
-matrix_of (Some p) = posed_matrix p.theta p.tx p.ty
+matrix_of (Err r) = identity3
+matrix_of (Ok p) = posed_matrix p.theta p.tx p.ty
 
 -- document 01's number and values of an answer
 pub record Told : Type 0 where

@@ -36,7 +36,7 @@ pub struct Posed {
     pub rho: f32,
 }
 
-// How a call ends: a pose, or a refusal of document 01's table.
+// How a call ends: a pose, or a refusal.
 pub type Answer = Result<Posed, Refusal>;
 
 // An answer with the number of warps done.
@@ -145,13 +145,13 @@ pub fn posed_matrix(theta: f32, tx: f32, ty: f32) -> Matrix3
     }
 }
 
-// The matrix of any answer's pose: the identity where there is none, for a number that is not finite and for a theta outside -2..2.
-pub fn matrix_of(pose: Option<Posed>) -> Matrix3
-    ensures { result ≡ matrix_of pose }
+// The matrix of any answer: the identity for a refusal, for a number that is not finite and for a theta outside -2..2.
+pub fn matrix_of(a: Answer) -> Matrix3
+    ensures { result ≡ matrix_of a }
 {
-    match pose {
-        None => identity3(),
-        Some(p) => posed_matrix(p.theta, p.tx, p.ty),
+    match a {
+        Err(_) => identity3(),
+        Ok(p) => posed_matrix(p.theta, p.tx, p.ty),
     }
 }
 

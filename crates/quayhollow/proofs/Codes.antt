@@ -14,7 +14,7 @@ use Rattle.lists.proofs.Cases.{pick_where, pick_both}
 use Rattle.settings.specs.declared.EccConfig.{EccConfig}
 use Rattle.checks.proofs.Past.{past}
 use Rattle.pose.specs.Pose.{Answer, number_of, told_of}
-use Rattle.refusals.specs.declared.Refusal.{Refusal}
+use Rattle.refusals.specs.Refusals.{number, refusal_of}
 use Rattle.refusals.proofs.Numbered.{number_most}
 use Rattle.pose.specs.declared.Outcome.{Outcome}
 use Rattle.alignment.specs.Aligned.{aligned_of}
@@ -34,19 +34,19 @@ code_told o h = (omega arith, omega arith)
 pub handed_on : {o o' : Outcome} {n : ℕ} (xs : List Float) {ys : List Float} → o ≡ o' → n ≡ code_of o → ys ≡ fronted (pose_of o.answer) xs → (n ≡ code_of o') × (ys ≡ fronted (pose_of o'.answer) xs)
 handed_on xs e c p = (c ∙ ap code_of e, p ∙ ap (λ (o : Outcome). fronted (pose_of o.answer) xs) e)
 
-low : (a : Answer) → number_of a ≤ 13
-unfolding told_of
-low (Ok p) = lit≤ tt
-low (Err r) = number_most r
+low : (a : Answer) → T (ends_in 1 10 a) → number_of a ≤ 13
+unfolding ends_in told_of
+low (Ok p) t = lit≤ tt
+low (Err r) t = le_trans (leb→le (number r) 10 (and_r (leb 1 (number r)) (leb (number r) 10) t)) (lit≤ tt)
 
-refused : (r : Refusal) → Small (record { passes = 0; answer = Err r })
+refused : (n : ℕ) → Small (record { passes = 0; answer = Err (refusal_of n) })
 unfolding told_of
-refused r = (number_most r, lit≤ tt)
+refused n = (number_most n, lit≤ tt)
 
 pub aligned_small : (template input : List ℕ) (w h : ℕ) (cfg : EccConfig) (k m : ℕ) → Small (aligned_of template input w h cfg k m)
 unfolding aligned_of
 aligned_small template input w h cfg k m = (
-  low _,
+  low _ (call_ends template input w h cfg k m).0,
   pick_where (λ (o : Outcome). o.passes ≤ 1000) _ _ _
       (λ e. le_trans (run_ends template input w h cfg _ _).0 (past _ _ _ _ _ _ _ (eqb-true _ _ e)).passes_most) (lit≤ tt),
 )

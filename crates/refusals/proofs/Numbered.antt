@@ -7,11 +7,11 @@ use native.Mathlib.Omega.{arith}
 use borrow.Author.Tests.{eqb-true}
 use lib.Dec.{T, eqb, lit≤}
 use Rattle.lists.specs.Marked.{pick}
-use Rattle.lists.proofs.Cases.{choose, pick_true, pick_false}
+use Rattle.lists.proofs.Cases.{choose, pick_true, pick_false, pick_both}
 use Rattle.lists.proofs.Every.{every, every_at}
 use Rattle.refusals.specs.Refusals.{number, refusal_of, checked, Numbered}
 use Rattle.refusals.specs.declared.Refusal.{Refusal}
-use Rattle.refusals.specs.declared.Refusal.TheVariants.{InvalidInput, SideTooLarge, SettingTooLarge, RoomTooShort, FewPixels, Flat, RhoNotFinite, NoInverse, NoStep, PoseLost, NoPrevious, OtherSides, StoreTooShort}
+use Rattle.refusals.specs.declared.Refusal.TheVariants.{InvalidInput, SideTooLarge, SettingTooLarge, RoomTooShort, FewPixels, Flat, RhoNotFinite, NoInverse, NoStep, PoseLost, NoPrevious, OtherSides, StoreTooShort, Handed}
 
 is_true : (b : Bool) → T b → b ≡ true
 is_true true t = refl
@@ -24,45 +24,67 @@ numbered n l h =
     let e : 1 + (n - 1) ≡ n = omega arith in
     eqb-true _ _ (is_true _ (subst (λ (k : ℕ). T (p k)) e (every_at 13 (λ i. p (1 + i)) (n - 1) tt (omega arith))))
 
-by_number : (r : Refusal) → Err r ≡ checked (number r)
+-- whether it is of the table
+abbrev is_named : Refusal → Bool
+is_named (Handed n) = false
+is_named InvalidInput = true
+is_named SideTooLarge = true
+is_named SettingTooLarge = true
+is_named RoomTooShort = true
+is_named FewPixels = true
+is_named Flat = true
+is_named RhoNotFinite = true
+is_named NoInverse = true
+is_named NoStep = true
+is_named PoseLost = true
+is_named NoPrevious = true
+is_named OtherSides = true
+is_named StoreTooShort = true
+
+by_number : (r : Refusal) → T (is_named r) → Err r ≡ checked (number r)
 unfolding checked refusal_of pick
-by_number InvalidInput = refl
-by_number SideTooLarge = refl
-by_number SettingTooLarge = refl
-by_number RoomTooShort = refl
-by_number FewPixels = refl
-by_number Flat = refl
-by_number RhoNotFinite = refl
-by_number NoInverse = refl
-by_number NoStep = refl
-by_number PoseLost = refl
-by_number NoPrevious = refl
-by_number OtherSides = refl
-by_number StoreTooShort = refl
+by_number InvalidInput t = refl
+by_number SideTooLarge t = refl
+by_number SettingTooLarge t = refl
+by_number RoomTooShort t = refl
+by_number FewPixels t = refl
+by_number Flat t = refl
+by_number RhoNotFinite t = refl
+by_number NoInverse t = refl
+by_number NoStep t = refl
+by_number PoseLost t = refl
+by_number NoPrevious t = refl
+by_number OtherSides t = refl
+by_number StoreTooShort t = refl
+by_number (Handed n) t = absurd t
 
 -- a check that fails, and one that passes, by its number
-pub fails : (r : Refusal) (n : ℕ) → number r ≡ n → Err r ≡ checked n
-fails r n e = by_number r ∙ ap checked e
+pub fails : (r : Refusal) (n : ℕ) → T (is_named r) → number r ≡ n → Err r ≡ checked n
+fails r n t e = by_number r t ∙ ap checked e
 
 pub passes : (n : ℕ) → 0 ≡ n → Ok tt ≡ checked n
 unfolding checked pick
 passes n e = ap checked e
 
--- every number is of the table
-pub number_most : (r : Refusal) → number r ≤ 13
-number_most InvalidInput = lit≤ tt
-number_most SideTooLarge = lit≤ tt
-number_most SettingTooLarge = lit≤ tt
-number_most RoomTooShort = lit≤ tt
-number_most FewPixels = lit≤ tt
-number_most Flat = lit≤ tt
-number_most RhoNotFinite = lit≤ tt
-number_most NoInverse = lit≤ tt
-number_most NoStep = lit≤ tt
-number_most PoseLost = lit≤ tt
-number_most NoPrevious = lit≤ tt
-number_most OtherSides = lit≤ tt
-number_most StoreTooShort = lit≤ tt
+-- what a check refuses with is of the table
+abbrev Low : Refusal → Type 0
+Low r = number r ≤ 13
+
+pub number_most : (n : ℕ) → number (refusal_of n) ≤ 13
+unfolding refusal_of
+number_most n =
+    pick_both Low _ _ _ (lit≤ tt)
+    (pick_both Low _ _ _ (lit≤ tt)
+    (pick_both Low _ _ _ (lit≤ tt)
+    (pick_both Low _ _ _ (lit≤ tt)
+    (pick_both Low _ _ _ (lit≤ tt)
+    (pick_both Low _ _ _ (lit≤ tt)
+    (pick_both Low _ _ _ (lit≤ tt)
+    (pick_both Low _ _ _ (lit≤ tt)
+    (pick_both Low _ _ _ (lit≤ tt)
+    (pick_both Low _ _ _ (lit≤ tt)
+    (pick_both Low _ _ _ (lit≤ tt)
+    (pick_both Low _ _ _ (lit≤ tt) (lit≤ tt))))))))))))
 
 -- ---- and back: what a check's answer says of its number
 

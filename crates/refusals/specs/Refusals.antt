@@ -2,7 +2,7 @@
 use Rattle.std.specs.Prelude.{◌≡◌, ℕ, ◌≤◌, Result, Ok, Err, eqb}
 use Rattle.lists.specs.Marked.{pick}
 use Rattle.refusals.specs.declared.Refusal.{Refusal}
-use Rattle.refusals.specs.declared.Refusal.TheVariants.{InvalidInput, SideTooLarge, SettingTooLarge, RoomTooShort, FewPixels, Flat, RhoNotFinite, NoInverse, NoStep, PoseLost, NoPrevious, OtherSides, StoreTooShort}
+use Rattle.refusals.specs.declared.Refusal.TheVariants.{InvalidInput, SideTooLarge, SettingTooLarge, RoomTooShort, FewPixels, Flat, RhoNotFinite, NoInverse, NoStep, PoseLost, NoPrevious, OtherSides, StoreTooShort, Handed}
 
 abbrev pub number : Refusal → ℕ
 number InvalidInput = 1
@@ -18,6 +18,7 @@ number PoseLost = 10
 number NoPrevious = 11
 number OtherSides = 12
 number StoreTooShort = 13
+number (Handed n) = n
 
 -- the refusal with a number from 1 to 13
 unfoldable pub refusal_of : ℕ → Refusal

@@ -1,4 +1,5 @@
-// Why a call is refused: document 01's table, under the names that docs/NUMBERS.md and the header give its numbers.
+// Why a call is refused: document 01's table, under the names that docs/NUMBERS.md and the header give its numbers; and any number that a caller
+// hands in as a refusal's.
 #![tactic(auto)]
 
 ghost use Rattle.std.specs.Prelude.{◌≡◌};
@@ -19,10 +20,12 @@ pub enum Refusal {
     NoPrevious,
     OtherSides,
     StoreTooShort,
+    // Handed in by its number, in the table or not. No call ends with it.
+    Handed(u8),
 }
 
 impl Refusal {
-    // Its number in the table.
+    // Its number in the table, or the one that was handed in.
     pub fn number(self) -> u8
         ensures { result ≡ number self }
     {
@@ -40,6 +43,7 @@ impl Refusal {
             Refusal::NoPrevious => 11,
             Refusal::OtherSides => 12,
             Refusal::StoreTooShort => 13,
+            Refusal::Handed(number) => number,
         }
     }
 }

@@ -59,6 +59,13 @@ fn report(rt: &HostRuntime, kind: Kind, tally: Tally) {
     let _ = println!(rt; "{kind}: {agreed} of {seen} agree");
 }
 
+// The reports of all kinds, in order.
+fn report_all(rt: &HostRuntime, tallies: &[Tally; 64]) {
+    for kind in Kind::ALL {
+        report(rt, kind, tallies[kind as usize]);
+    }
+}
+
 fn main(rt: HostRuntime) {
     let mut bytes = [0u8; 65536];
     let mut words = [0u64; 8300];
@@ -72,7 +79,5 @@ fn main(rt: HostRuntime) {
             Ok(n) => line = take(&bytes[..n], &mut words, &mut tallies, line),
         }
     }
-    for kind in Kind::ALL {
-        report(&rt, kind, tallies[kind as usize]);
-    }
+    report_all(&rt, &tallies);
 }

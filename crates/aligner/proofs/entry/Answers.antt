@@ -9,25 +9,25 @@ use Rattle.aligner.proofs.entry.Goals as goal
 
 pub returns-then-w-gt-MOST_SIDE : goal.returns-then-w-gt-MOST_SIDE
 unfolding entry_of
-returns-then-w-gt-MOST_SIDE c = fails _ _ (sym (pick_true _ _ _ (lt-ltb _ _ c.if-w-gt-MOST_SIDE.true)))
+returns-then-w-gt-MOST_SIDE c = fails _ _ tt (sym (pick_true _ _ _ (lt-ltb _ _ c.if-w-gt-MOST_SIDE.true)))
 
 pub returns-then-h-gt-MOST_SIDE : goal.returns-then-h-gt-MOST_SIDE
 unfolding entry_of
-returns-then-h-gt-MOST_SIDE c = fails _ _ (sym (pick_false _ _ _ (le-ltb _ _ c.if-w-gt-MOST_SIDE.false) ∙ pick_true _ _ _ (lt-ltb _ _ c.if-h-gt-MOST_SIDE.true)))
+returns-then-h-gt-MOST_SIDE c = fails _ _ tt (sym (pick_false _ _ _ (le-ltb _ _ c.if-w-gt-MOST_SIDE.false) ∙ pick_true _ _ _ (lt-ltb _ _ c.if-h-gt-MOST_SIDE.true)))
 
 pub overflow_mul-w : goal.overflow_mul-w
 overflow_mul-w c = sides_fit _ _ c.if-w-gt-MOST_SIDE.false c.if-h-gt-MOST_SIDE.false
 
 pub returns-then-frame-w : goal.returns-then-frame-w
 unfolding entry_of
-returns-then-frame-w c = fails _ _ (sym (pick_false _ _ _ (le-ltb _ _ c.if-w-gt-MOST_SIDE.false) ∙ pick_false _ _ _ (le-ltb _ _ c.if-h-gt-MOST_SIDE.false) ∙ pick_false _ _ _ (ne_eqb _ _ c.if-frame-w.true)))
+returns-then-frame-w c = fails _ _ tt (sym (pick_false _ _ _ (le-ltb _ _ c.if-w-gt-MOST_SIDE.false) ∙ pick_false _ _ _ (le-ltb _ _ c.if-h-gt-MOST_SIDE.false) ∙ pick_false _ _ _ (ne_eqb _ _ c.if-frame-w.true)))
 
 pub overflow_mul-w-2 : goal.overflow_mul-w-2
 overflow_mul-w-2 c = sides_fit _ _ c.if-w-gt-MOST_SIDE.false c.if-h-gt-MOST_SIDE.false
 
 pub returns-then-store-w : goal.returns-then-store-w
 unfolding entry_of
-returns-then-store-w c = fails _ _ (sym
+returns-then-store-w c = fails _ _ tt (sym
     (pick_false _ _ _ (le-ltb _ _ c.if-w-gt-MOST_SIDE.false)
     ∙ pick_false _ _ _ (le-ltb _ _ c.if-h-gt-MOST_SIDE.false)
     ∙ pick_true _ _ _ (eq-eqb _ _ c.if-frame-w.false)

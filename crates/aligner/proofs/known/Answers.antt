@@ -10,18 +10,18 @@ use Rattle.aligner.proofs.known.Goals as goal
 
 pub returns-in_default : goal.returns-in_default
 unfolding known_by known_of
-returns-in_default c = let a = c.args in fails _ _ (sym (ap (λ (p : Option Sides). known_by p a.w a.h) c.in_default.is))
+returns-in_default c = let a = c.args in fails _ _ tt (sym (ap (λ (p : Option Sides). known_by p a.w a.h) c.in_default.is))
 
 pub returns-then-prev-w : goal.returns-then-prev-w
 unfolding known_by known_of
 returns-then-prev-w c =
-    let a = c.args in fails _ _ (sym (ap (λ (p : Option Sides). known_by p a.w a.h) c.in-Some.is ∙ pick_false _ _ _ (ne_eqb _ _ c.if-prev-w.true)))
+    let a = c.args in fails _ _ tt (sym (ap (λ (p : Option Sides). known_by p a.w a.h) c.in-Some.is ∙ pick_false _ _ _ (ne_eqb _ _ c.if-prev-w.true)))
 
 pub returns-then-prev-h : goal.returns-then-prev-h
 unfolding known_by known_of
 returns-then-prev-h c =
     let a = c.args in
-    fails _ _
+    fails _ _ tt
     (sym (ap (λ (p : Option Sides). known_by p a.w a.h) c.in-Some.is ∙ pick_true _ _ _ (eq-eqb _ _ c.if-prev-w.false) ∙ pick_false _ _ _ (ne_eqb _ _ c.if-prev-h.true)))
 
 pub returns : goal.returns

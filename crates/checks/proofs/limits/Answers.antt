@@ -9,15 +9,15 @@ use Rattle.checks.proofs.limits.Goals as goal
 
 pub returns-then-ksize-eq0 : goal.returns-then-ksize-eq0
 unfolding limits_of
-returns-then-ksize-eq0 c = fails _ _ (sym (pick_true _ _ _ (eq-eqb _ _ c.if-ksize-eq0.true)))
+returns-then-ksize-eq0 c = fails _ _ tt (sym (pick_true _ _ _ (eq-eqb _ _ c.if-ksize-eq0.true)))
 
 pub returns-then-ksize-gt-MOST_FILTER : goal.returns-then-ksize-gt-MOST_FILTER
 unfolding limits_of
-returns-then-ksize-gt-MOST_FILTER c = fails _ _ (sym (pick_false _ _ _ (ne_eqb _ _ c.if-ksize-eq0.false) ∙ pick_true _ _ _ (lt-ltb _ _ c.if-ksize-gt-MOST_FILTER.true)))
+returns-then-ksize-gt-MOST_FILTER c = fails _ _ tt (sym (pick_false _ _ _ (ne_eqb _ _ c.if-ksize-eq0.false) ∙ pick_true _ _ _ (lt-ltb _ _ c.if-ksize-gt-MOST_FILTER.true)))
 
 pub returns-then-cfg-gt-MOST_PASSES : goal.returns-then-cfg-gt-MOST_PASSES
 unfolding limits_of
-returns-then-cfg-gt-MOST_PASSES c = fails _ _ (sym (pick_false _ _ _ (ne_eqb _ _ c.if-ksize-eq0.false) ∙ pick_false _ _ _ (le-ltb _ _ c.if-ksize-gt-MOST_FILTER.false) ∙ pick_true _ _ _ (lt-ltb _ _ c.if-cfg-gt-MOST_PASSES.true)))
+returns-then-cfg-gt-MOST_PASSES c = fails _ _ tt (sym (pick_false _ _ _ (ne_eqb _ _ c.if-ksize-eq0.false) ∙ pick_false _ _ _ (le-ltb _ _ c.if-ksize-gt-MOST_FILTER.false) ∙ pick_true _ _ _ (lt-ltb _ _ c.if-cfg-gt-MOST_PASSES.true)))
 
 pub returns : goal.returns
 unfolding limits_of

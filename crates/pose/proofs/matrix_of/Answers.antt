@@ -3,10 +3,10 @@ use mathlib.Core.Path.{sym, ap, ◌∙◌}
 use Rattle.pose.specs.Pose.{matrix_of}
 use Rattle.pose.proofs.matrix_of.Goals as goal
 
-pub returns-in-None : goal.returns-in-None
+pub returns-in-Err : goal.returns-in-Err
 unfolding matrix_of
-returns-in-None c = cc
+returns-in-Err c = cc
 
-pub returns-in-Some : goal.returns-in-Some
+pub returns-in-Ok : goal.returns-in-Ok
 unfolding matrix_of
-returns-in-Some c = c.posed_matrix.ensures ∙ sym (ap matrix_of c.in-Some.is)
+returns-in-Ok c = c.posed_matrix.ensures ∙ sym (ap matrix_of c.in-Ok.is)
