@@ -47,7 +47,7 @@ passes k = record { eps = defaults_of.eps; max_iter = k; gauss_filt_size = defau
 
 -- dx of a pose with this bit pattern for tx, for a frame of 1x1: its middle is its one pixel
 abbrev pub dx_at : ℕ → ℤ
-dx_at b = (pins_of (Some (record { theta = 0f; tx = of_bits binary32 b; ty = 0f; rho = 0f })) 1 1).dx
+dx_at b = (pins_of (Ok (record { theta = 0f; tx = of_bits binary32 b; ty = 0f; rho = 0f })) 1 1).dx
 
 -- a row 0 10 20 30 40
 abbrev pub steps : List ℕ
