@@ -1,5 +1,5 @@
 -- The starred cases of document 01 by their numbers: each line is one claim about the definitions that the contracts cite. Floats stand by their bit patterns.
-use Rattle.std.specs.Prelude.{◌≡◌, ℕ, ◌*◌, List, [], ◌∷◌, ◌++◌, map, ℤ, pos, neg_ℤ, Float, Ok, Err, Some}
+use Rattle.std.specs.Prelude.{◌≡◌, ℕ, ◌*◌, List, [], ◌∷◌, ◌++◌, map, ℤ, pos, neg_ℤ, Float, Ok, Err}
 use Rattle.std.specs.Float.{binary32}
 use Rattle.std.specs.Float.Ieee.{neg, of_bits, to_bits}
 use Rattle.floats.specs.F32.{f32, 0f, 1f}
