@@ -8,7 +8,8 @@ use native.Mathlib.Numerals.{add-one}
 use native.Mathlib.Omega.{arith}
 use lib.Count.{ones}
 use lib.Dec.{eqb, ltb}
-use lib.ListN.{length, get_or, set, length-set}
+use lib.ListN.{length, get_or, set, take, length-set}
+use Rattle.std.proofs.lemmas.List.{get_or-take, length-take}
 use lib.Seq.{get_or-set_same, get_or-set_other, ext_get_or}
 use borrow.Author.Tests.{eqb-true, eqb-false, ltb-true, ltb-false}
 use Rattle.lists.specs.Lists.{tab, put}
@@ -18,6 +19,10 @@ use Rattle.lists.proofs.Fold.{over_none}
 use Rattle.marks.specs.Marks.{on}
 use Rattle.bits.specs.Words.{bit_at, packed_of, mark_word, ones_of}
 use Rattle.bits.proofs.Bits.{bit, word_bit, word_add, word_none, word_step, word_count, count_to}
+
+-- what stands in the first e words stands in all
+pub taken : (e : ℕ) (ws : List ℕ) (i : ℕ) → i < length (take e ws) → get_or (take e ws) i 0 ≡ get_or ws i 0
+taken e ws i h = get_or-take e ws i 0 (omega (arith, length-take {A = ℕ}))
 
 -- a store that changes one element of a rule
 module _ {A : Type 0} (xs : List A) (k : ℕ) (f g : ℕ → A) (fits : k ≤ length xs) (j : ℕ) (v : A) (d : A) (J : j < k) (here : v ≡ g j) (else : (i : ℕ) → i < k → (i ≡ j → ⊥) → f i ≡ g i) where

@@ -40,7 +40,7 @@ marks_agree zeros marks = all_below (length marks) (λ i. eqb (get_or marks i 0)
 
 -- number and pose, from the word `at` on: zeros for a refusal, whose number is not 0. The passes stand between them
 abbrev pub answer_agrees : List ℕ → ℕ → Answer → Bool
-answer_agrees words at (Err r) = eqb (stored_at words at) (number r) && floats_agree words (at + 2) (0f ∷ 0f ∷ 0f ∷ 0f ∷ [])
+answer_agrees words at (Err r) = eqb (stored_at words at) (number r) && not (eqb (number r) 0) && floats_agree words (at + 2) (0f ∷ 0f ∷ 0f ∷ 0f ∷ [])
 answer_agrees words at (Ok p) = eqb (stored_at words at) 0 && floats_agree words (at + 2) (p.theta ∷ p.tx ∷ p.ty ∷ p.rho ∷ [])
 
 -- number, passes, pose and matrix

@@ -93,12 +93,15 @@ fn marks_agree(marks: &[u64], zeros: u64) -> bool
         .all(|(i, x)| *x == after(i, zeros, 0, WORD_BEFORE))
 }
 
-// The number of a refusal, from the word `at` on, and zeros for its pose.
+// The number of a refusal, which is not 0, from the word `at` on, and zeros for its pose.
 fn refused(words: &[u64], at: usize, refusal: Refusal) -> bool
     requires { at ≤ 8412 }
     ensures { result ≡ answer_agrees words.now at (Err refusal) }
 {
-    word(words, at) == u64::from(refusal.number()) && same_floats(words, at + 2, 4, &[0.0; 4], 0)
+    let number = refusal.number();
+    word(words, at) == u64::from(number)
+        && number != 0
+        && same_floats(words, at + 2, 4, &[0.0; 4], 0)
 }
 
 // The number 0, from the word `at` on, and the four numbers of a pose.

@@ -4,6 +4,7 @@
 #![tactic(auto)]
 
 ghost use Rattle.std.specs.Prelude.{◌≡◌, ◌≤◌, not, T, is_nan};
+ghost use Rattle.std.specs.Float.Ieee as Ieee;
 ghost use Rattle.std.specs.Float.Ieee.Scale.{finite};
 ghost use Rattle.lists.specs.Premises.{is_side};
 ghost use Rattle.driver.specs.Pins.{pin_of, still_of, finite_of, posed_of, pins_of};
@@ -18,13 +19,20 @@ pub struct Pins {
     pub turn: i16,
 }
 
+// v with its fraction dropped, held to -32768..32767.
+fn held(v: f32) -> i16
+    ensures { result ≡ Ieee.to_signed 15 v }
+{
+    std::num::saturating_f32_to_i16(v)
+}
+
 // x to the nearest whole number, half away from zero, held to -32768..32767.
 fn capped(x: f32) -> i16
     requires { T (not (is_nan x)) }
     ensures { result ≡ pin_of 1 x }
 {
     let v = numbers::round(x);
-    std::num::saturating_f32_to_i16(v)
+    held(v)
 }
 
 // The numbers of a pose that is finite, with the point (a/2, b/2) in the middle of the frame. A product with 8192 is exact, or an infinity, which is held.

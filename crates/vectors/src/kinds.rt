@@ -1,5 +1,6 @@
 // What a vector tests: the kind whose number stands first in it.
-ghost use Rattle.vectors.specs.Kinds.{Names};
+ghost use Rattle.std.specs.Prelude.{Some};
+ghost use Rattle.vectors.specs.Kinds.{Names, kind_text};
 
 use std::fmt;
 
@@ -101,31 +102,33 @@ impl TryFrom<u64> for Kind {
 
 // What a kind tests, by name.
 impl fmt::Display for Kind {
+    ghost output = { λ kind. Some (kind_text kind) };
+
     fn fmt<W: fmt::Write>(&self, f: &mut fmt::Formatter<W>) -> fmt::Result {
-        f.write_str(match self {
-            Kind::Sqrt => "sqrt",
-            Kind::Cos => "cos",
-            Kind::Sin => "sin",
-            Kind::ExpNeg => "exp_neg",
-            Kind::Floor => "floor",
-            Kind::Round => "round",
-            Kind::Abs => "abs",
-            Kind::IsFinite => "is_finite",
-            Kind::ToF32 => "to_f32",
-            Kind::AsUsize => "as_usize",
-            Kind::Sides => "resized sides",
-            Kind::Resize => "resize_bilinear",
-            Kind::Kernel => "gaussian_kernel",
-            Kind::Blur => "gaussian_blur_separable",
-            Kind::GradientX => "gradient_x",
-            Kind::GradientY => "gradient_y",
-            Kind::Prepare => "prepared images",
-            Kind::Warp => "warp_three_inverse_map",
-            Kind::Stats => "centered_stats_in_place",
-            Kind::TryInverse => "try_inverse",
-            Kind::Call => "whole calls",
-            Kind::Pins => "driver numbers",
-            Kind::Rows => "marked rows",
-        })
+        match self {
+            Kind::Sqrt => f.write_str("sqrt"),
+            Kind::Cos => f.write_str("cos"),
+            Kind::Sin => f.write_str("sin"),
+            Kind::ExpNeg => f.write_str("exp_neg"),
+            Kind::Floor => f.write_str("floor"),
+            Kind::Round => f.write_str("round"),
+            Kind::Abs => f.write_str("abs"),
+            Kind::IsFinite => f.write_str("is_finite"),
+            Kind::ToF32 => f.write_str("to_f32"),
+            Kind::AsUsize => f.write_str("as_usize"),
+            Kind::Sides => f.write_str("resized sides"),
+            Kind::Resize => f.write_str("resize_bilinear"),
+            Kind::Kernel => f.write_str("gaussian_kernel"),
+            Kind::Blur => f.write_str("gaussian_blur_separable"),
+            Kind::GradientX => f.write_str("gradient_x"),
+            Kind::GradientY => f.write_str("gradient_y"),
+            Kind::Prepare => f.write_str("prepared images"),
+            Kind::Warp => f.write_str("warp_three_inverse_map"),
+            Kind::Stats => f.write_str("centered_stats_in_place"),
+            Kind::TryInverse => f.write_str("try_inverse"),
+            Kind::Call => f.write_str("whole calls"),
+            Kind::Pins => f.write_str("driver numbers"),
+            Kind::Rows => f.write_str("marked rows"),
+        }
     }
 }

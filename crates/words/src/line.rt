@@ -2,11 +2,13 @@
 ghost use Rattle.std.specs.Prelude.{◌≡◌, ◌<◌, length};
 ghost use Rattle.words.specs.Reading.{digit_of, no_word, closed_of, closed_in, line_after, words_after};
 
-// The words so far are the first `count` of the lent slice; `open` is the word that is being read.
+// The words so far are the first `count` of the lent slice. `value` is the word that is being read, if `open`. A flag, and no Option: `with` takes
+// lines of any value, open or not, and `line_after` says what comes of each.
 #[derive(Clone, Copy)]
 pub struct Line {
     pub count: usize,
-    pub open: Option<u64>,
+    pub value: u64,
+    pub open: bool,
     // No value stands beside it: what is passed over is not kept.
     pub skip: bool,
 }
@@ -17,7 +19,8 @@ impl Line {
     {
         Line {
             count: 0,
-            open: None,
+            value: 0,
+            open: false,
             skip: false,
         }
     }
@@ -27,15 +30,14 @@ impl Line {
     pub fn closed(self, words: &mut [u64]) -> Line
         ensures { (result ≡ closed_of self (length words.old)) × (words.new ≡ closed_in self words.old) }
     {
-        if let Some(word) = self.open {
-            if self.count < words.len() {
-                words[self.count] = word;
-                return Line {
-                    count: self.count + 1,
-                    open: None,
-                    ..self
-                };
-            }
+        if self.open && self.count < words.len() {
+            words[self.count] = self.value;
+            return Line {
+                count: self.count + 1,
+                value: 0,
+                open: false,
+                ..self
+            };
         }
         self
     }
@@ -51,12 +53,14 @@ impl Line {
         match b {
             b' ' => self.closed(words),
             b'#' => Line {
-                open: None,
+                value: 0,
+                open: false,
                 skip: true,
                 ..self.closed(words)
             },
             _ => Line {
-                open: Some(self.open.unwrap_or(0) % 0x1000_0000_0000_0000 * 16 + digit(b)),
+                value: self.value % 0x1000_0000_0000_0000 * 16 + digit(b),
+                open: true,
                 ..self
             },
         }

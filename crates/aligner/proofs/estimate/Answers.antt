@@ -1,10 +1,12 @@
 -- `aligner::estimate` meets its contract: the first checks leave all as it was; else the frame is answered, then kept. Assumes nothing.
-use Rattle.std.specs.Prelude.{Err, Some}
+use Rattle.std.specs.Prelude.{Err, Option, Some}
 use mathlib.Core.Path.{sym, ap, ◌∙◌}
 use native.Mathlib.Omega.{arith}
+use borrow.Author.Rules.{rules}
 use borrow.Author.Tests.{eq-eqb}
 use lib.ListN.{length}
 use Rattle.lists.proofs.Cases.{pick_true, pick_false}
+use Rattle.settings.specs.declared.Sides.{Sides}
 use Rattle.refusals.specs.declared.Refusal.{Refusal}
 use Rattle.refusals.proofs.Numbered.{is_failed, is_passed}
 use Rattle.pose.specs.declared.Outcome.{Outcome}
@@ -41,7 +43,8 @@ returns c =
     let a = c.args in
     let yes = eq-eqb _ 0 (is_passed _ _ (sym c.in_default.is ∙ c.entry.ensures)) in
     let why = refused_later a.aligner (length a.frame.now) a.w a.h (length a.work.now) (length a.marks.now) (length a.store.now) yes in record {
-      value = ap (λ (o : Outcome). record { aligner = record { cfg = a.aligner.cfg; prev = Some (record { w = a.w; h = a.h }) }; outcome = o }) c.answer-outcome.ensures.value
+      value = ap (λ (p : Option Sides). record { aligner = record { cfg = a.aligner.cfg; prev = p }; outcome = c.answer-outcome.result }) (search rules)
+          ∙ ap (λ (o : Outcome). record { aligner = record { cfg = a.aligner.cfg; prev = Some (record { w = a.w; h = a.h }) }; outcome = o }) c.answer-outcome.ensures.value
           ∙ sym (pick_true _ _ _ yes);
       store_after = c.keep.ensures ∙ sym (pick_true _ _ _ yes);
       leaves = (rw why c.answer-outcome.ensures.leaves.0, rw why c.answer-outcome.ensures.leaves.1);

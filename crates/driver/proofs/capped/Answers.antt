@@ -7,5 +7,4 @@ use Rattle.driver.proofs.capped.Goals as goal
 pub returns : goal.returns
 returns c =
     let n = subst (Rounded c.args.x) (sym c.round-v.ensures) (rounded c.args.x (subst T (sym c.well_formed.0.1) tt) c.requires) in
-    let v = c.saturating_f32_to_i16 in
-    to_z-of_z w16 v.result (record { sfits = v.type_inv }) ∙ v.ensures ∙ held c.round-v.result n.s n.q n.whole ∙ n.is
+    to_z-of_z w16 c.held.result (record { sfits = c.held.type_inv }) ∙ c.held.ensures ∙ held c.round-v.result n.s n.q n.whole ∙ n.is

@@ -1,6 +1,7 @@
 -- `pgm2rec::filled` hands over the bytes that were read. Assumes nothing.
 use mathlib.Core.Path.{◌≡◌, sym, ap, ◌∙◌}
 use mathlib.Core.Bool.{true}
+use borrow.Author.Rules.{rules}
 use Rattle.pgm2rec.specs.Course.{file_run}
 use Rattle.pgm2rec.proofs.Steps.{run_unread, not_read, too_long, all_read_lem}
 use Rattle.pgm2rec.proofs.filled.Goals as goal
@@ -8,7 +9,7 @@ use Rattle.pgm2rec.proofs.filled.Goals as goal
 pub returns-in-Err : goal.returns-in-Err
 returns-in-Err c =
     let a = c.args in
-    (true, c.refuse.ensures ∙ sym (ap (file_run a.run true) (not_read a.buf.now _ c.in-Err.is) ∙ run_unread a.run true))
+    (true, search rules ∙ sym (ap (file_run a.run true) (not_read a.buf.now _ c.in-Err.is) ∙ run_unread a.run true))
 
 pub returns-in-Ok : goal.returns-in-Ok
 returns-in-Ok c =
