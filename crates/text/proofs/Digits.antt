@@ -1,14 +1,15 @@
 -- The digits of a number: those that itoa writes are the definition's. Assumes nothing.
 use Prim.Native.Nat.{ℕ, zero, suc, ◌+◌, ◌/◌, ◌%◌, ◌^◌, ◌≤◌, ◌<◌}
 use mathlib.Core.Path.{◌≡◌, sym, ap, ◌∙◌}
+use mathlib.Core.Bool.{true, false, true≢false}
 use mathlib.Core.List.{List, [], ◌∷◌, ◌++◌}
 use mathlib.Core.Logic.{◌⊎◌, inl, inr, ⊎_elim}
 use native.Mathlib.Nat.{eq-zero-or-pos}
 use native.Mathlib.Omega.{arith}
-use borrow.Author.Tests.{lt-ltb, le-ltb}
-use lib.IntN.{ℤ, pos, negsuc}
-use lib.Signed.{mag}
-use Rattle.std.specs.Fmt.{decimal, signed_decimal}
+use borrow.Author.Tests.{lt-ltb, le-ltb, ltb-true}
+use lib.IntN.{ℤ, pos, negsuc, nat_abs}
+use lib.Signed.{lt_z}
+use Rattle.std.specs.Fmt.{decimal}
 use Rattle.std.proofs.lemmas.Fmt.{decimal_by_steps}
 use Rattle.lists.proofs.Cases.{pick_true, pick_false}
 use Rattle.text.specs.Text.{digits_of, decimal_of, signed_of}
@@ -58,7 +59,14 @@ decimal_is n h =
 next_is : (n : ℕ) → n + 1 < 2 ^ 64 → decimal (suc n) ≡ decimal_of (n + 1)
 next_is n h = let e : suc n ≡ n + 1 = omega arith in ap decimal e ∙ decimal_is (n + 1) h
 
-pub signed_is : (n : ℤ) → mag n < 2 ^ 15 → signed_decimal n ≡ signed_of n
+-- ---- a sign, and the size behind it
+
+pub signed_below : (n : ℤ) → nat_abs n < 2 ^ 16 → lt_z n (pos 0) ≡ true → signed_of n ≡ 45 ∷ decimal (nat_abs n)
 unfolding signed_of
-signed_is (pos n) h = decimal_is n (omega (arith, h))
-signed_is (negsuc n) h = ap (λ (l : List ℕ). 45 ∷ l) (next_is n (omega (arith, h)))
+signed_below (pos n) h e = absurd (omega (arith, ltb-true n 0 e))
+signed_below (negsuc n) h e = ap (λ (l : List ℕ). 45 ∷ l) (sym (next_is n (omega (arith, h))))
+
+pub signed_above : (n : ℤ) → nat_abs n < 2 ^ 16 → lt_z n (pos 0) ≡ false → signed_of n ≡ decimal (nat_abs n)
+unfolding signed_of
+signed_above (pos n) h e = sym (decimal_is n (omega (arith, h)))
+signed_above (negsuc n) h e = absurd (true≢false e)

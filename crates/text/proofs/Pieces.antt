@@ -1,6 +1,6 @@
 -- Pieces put one after another make a line. Assumes nothing.
 use Prim.Native.Nat.{ℕ, ◌+◌, ◌≤◌}
-use mathlib.Core.Path.{◌≡◌, refl, ap, ◌∙◌}
+use mathlib.Core.Path.{◌≡◌, refl, ap, subst, ◌∙◌}
 use mathlib.Core.Bool.{true, false}
 use mathlib.Core.List.{List, [], ◌∷◌, ◌++◌, append_assoc}
 use native.Mathlib.Omega.{arith}
@@ -24,6 +24,10 @@ module _ {xs ys zs : List ℕ} {a m n b r : ℕ} {l k : List ℕ} where
         bound = omega arith;
         text = then_put xs a l b k v.text w.text i (omega arith);
       }
+
+-- the second piece, put at an index that is the end of the first
+pub then_wrote_at : {xs ys zs : List ℕ} {a m n b q r : ℕ} {l k : List ℕ} → Wrote xs a l m ys b → q ≡ b → Wrote ys q k n zs r → a + m + n ≤ length xs → Wrote xs a (l ++ k) (m + n) zs r
+then_wrote_at {ys = ys} {zs = zs} {n = n} {r = r} {k = k} v e w h = then_wrote v (subst (λ (z : ℕ). Wrote ys z k n zs r) e w) h
 
 -- the same text in other words, with another bound
 pub wrote_as : {xs ys : List ℕ} {a m n r : ℕ} {l k : List ℕ} → Wrote xs a l m ys r → l ≡ k → length l ≤ n → Wrote xs a k n ys r

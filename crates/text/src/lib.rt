@@ -4,7 +4,7 @@
 #![tactic(auto)]
 
 ghost use Rattle.std.specs.Prelude.{◌≡◌, [], ◌∷◌, ◌++◌, ◌+◌, ◌≤◌, length};
-ghost use Rattle.text.specs.Text.{distance_of, frame_line, end_line, Wrote};
+ghost use Rattle.text.specs.Text.{distance_of, signed_of, frame_line, end_line, Wrote};
 
 use itoa::{Buffer, Integer};
 
@@ -19,7 +19,7 @@ fn put_bytes(out: &mut [u8], at: usize, src: &[u8]) -> usize
     end
 }
 
-// n in decimal, with a sign where it is negative, and the byte that ends it.
+// n in decimal, and the byte that ends it.
 // By itoa: of `write!` into lent memory the library says only what is written if all of it is.
 fn put_number<I: Integer>(out: &mut [u8], at: usize, n: I, end: u8) -> usize
     requires { at + I.MAX_STR_LEN + 1 ≤ length out.old }
@@ -28,6 +28,19 @@ fn put_number<I: Integer>(out: &mut [u8], at: usize, n: I, end: u8) -> usize
     let mut digits = Buffer::new();
     let next = put_bytes(out, at, digits.format(n).as_bytes());
     put_bytes(out, next, &[end])
+}
+
+// n in decimal, with a sign where it is negative, and the byte that ends it.
+// The sign by hand, though itoa's text has it: so an edit that loses it falls for what is put, and not for the form of the call (docs/DESIGN-PASS.md).
+fn put_signed(out: &mut [u8], at: usize, n: i16, end: u8) -> usize
+    requires { at + 7 ≤ length out.old }
+    ensures { Wrote out.old at (signed_of n ++ (end ∷ [])) 7 out.new result }
+{
+    if n < 0 {
+        let next = put_bytes(out, at, b"-");
+        return put_number(out, next, n.unsigned_abs(), end);
+    }
+    put_number(out, at, n.unsigned_abs(), end)
 }
 
 // The distance of n to 0.
@@ -54,9 +67,9 @@ pub fn put_line(
     let a = put_number(out, at, position, b' ');
     let b = put_number(out, a, number, b' ');
     let c = put_number(out, b, passes, b' ');
-    let d = put_number(out, c, dx, b' ');
-    let e = put_number(out, d, dy, b' ');
-    put_number(out, e, turn, b'\n')
+    let d = put_signed(out, c, dx, b' ');
+    let e = put_signed(out, d, dy, b' ');
+    put_signed(out, e, turn, b'\n')
 }
 
 // The last line: `done` or `cut`, and the count of frames.
